@@ -1,0 +1,12 @@
+pub mod Within
+pub mod Limits
+pub mod FirstBad
+pub mod Scans
+pub mod Answers
+pub mod Passes
+pub mod Rules
+pub mod GoodBook
+pub mod NumberWritten
+pub mod WalkWritten
+pub mod BookA
+pub mod Determined

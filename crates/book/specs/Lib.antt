@@ -1,0 +1,9 @@
+pub mod Number
+pub mod Header
+pub mod Tables
+pub mod Entries
+pub mod FirstBad
+pub mod Check
+pub mod Walk
+pub mod BookA
+pub mod steps

@@ -1,0 +1,50 @@
+// The day book: whether it is good, what its fields say, and the write of one turn's walk.
+mod checks;
+mod entries;
+mod fields;
+mod header;
+mod numbers;
+mod tables;
+
+pub use checks::check;
+pub use checks::given_back;
+pub use fields::line_headway;
+pub use fields::link_from;
+pub use fields::link_line;
+pub use fields::link_ride;
+pub use fields::link_to;
+pub use fields::pair_extra;
+pub use fields::pair_first;
+pub use fields::pair_second;
+pub use fields::turn_first;
+pub use fields::turn_second;
+pub use fields::turn_walk;
+pub use fields::write_walk;
+
+// A link number, a turn number and a node number are numbered apart; none may stand where another is meant.
+pub struct LinkNumber(pub u16);
+
+pub struct TurnNumber(pub u16);
+
+pub struct NodeNumber(pub u16);
+
+// The figures of the header.
+pub struct Counts {
+    pub nodes: usize,
+    pub lines: usize,
+    pub links: usize,
+    pub turns: usize,
+    pub pairs: usize,
+    pub carry_over: usize,
+}
+
+// Document 01's number, and the place: an entry's number in its own table, or 0.
+pub struct Refusal {
+    pub number: u8,
+    pub place: usize,
+}
+
+pub enum Checked {
+    Good(Counts),
+    Refused(Refusal),
+}

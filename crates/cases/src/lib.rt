@@ -1,0 +1,14 @@
+// What the programs of cases share: books made number by number, and the line of a case.
+mod books;
+mod largest;
+mod lines;
+
+pub use books::book_a;
+pub use books::put;
+pub use books::put_book_a;
+pub use books::put_header;
+pub use books::put_link;
+pub use books::put_three;
+pub use largest::LARGEST_BYTES;
+pub use largest::put_largest;
+pub use lines::answer_line;

@@ -10,7 +10,7 @@ use Rattle.book.specs.declared.Checked.the-variants.{Refused}
 use Rattle.book.specs.declared.entries.Scanned.{Scanned}
 use Rattle.book.specs.declared.entries.Scanned.the-variants.{Clean, Bad}
 use Rattle.book.specs.FirstBad.{firstBad}
-use Rattle.book.specs.Check.{unless, unlessBad, refusal}
+use Rattle.book.specs.Check.{unless, unlessAllGood, refusal}
 use Rattle.book.specs.steps.Scan.{scan, cleanOr}
 
 -- what the code's test t found of u, where the code asked whether t is false
@@ -37,10 +37,10 @@ module _ (rest : Checked) where
   onward-at false found e = cc
 
   module _ (number : ℕ) (good : ℕ → Bool) (count : ℕ) {s : Scanned} (scanned : s ≡ scan number good count) where
-    pub bad-table : {r : Refusal} → s ≡ Bad r → Refused r ≡ unlessBad number good count rest
+    pub bad-table : {r : Refusal} → s ≡ Bad r → Refused r ≡ unlessAllGood number good count rest
     unfolding scan
     bad-table {r} e = refused-at (leb count (firstBad good count)) (refusal number (firstBad good count)) r (cc)
 
-    pub clean-table : s ≡ Clean → rest ≡ unlessBad number good count rest
+    pub clean-table : s ≡ Clean → rest ≡ unlessAllGood number good count rest
     unfolding scan
     clean-table e = onward-at (leb count (firstBad good count)) (refusal number (firstBad good count)) (cc)

@@ -7,7 +7,7 @@ use Rattle.book.specs.declared.Counts.{Counts}
 use Rattle.book.specs.declared.Checked.the-variants.{Good}
 use Rattle.book.specs.Header.{countsOf}
 use Rattle.book.specs.Tables.{bookEnd, lineTable, linkTable, turnTable, pairTable}
-use Rattle.book.specs.Entries.{lineHeadway, mostHeadway, linkFrom, linkTo, joinFirst, joinSecond}
+use Rattle.book.specs.Entries.{lineHeadway, mostHeadway, linkFrom, linkTo, turnFirst, turnSecond}
 use Rattle.book.specs.Check.{checkOf}
 use Rattle.book.proofs.Limits.{Limits, limits}
 use Rattle.book.proofs.Passes.{passes}
@@ -21,14 +21,14 @@ pub record GoodBook (book : List ℕ) (counts : Counts) : Type 0 where
   pub link : (k : ℕ) → k < counts .links → LinkRules (counts .nodes) (counts .lines) (linkTable book counts) k
   pub turn : (k : ℕ) → k < counts .turns → JoinRules (counts .links) (linkTo (linkTable book counts)) (linkFrom (linkTable book counts)) (turnTable book counts) k
   pub turns : Ascending (turnTable book counts) (counts .turns)
-  pub pair : (k : ℕ) → k < counts .pairs → JoinRules (counts .turns) (joinSecond (turnTable book counts)) (joinFirst (turnTable book counts)) (pairTable book counts) k
+  pub pair : (k : ℕ) → k < counts .pairs → JoinRules (counts .turns) (turnSecond (turnTable book counts)) (turnFirst (turnTable book counts)) (pairTable book counts) k
   pub pairs : Ascending (pairTable book counts) (counts .pairs)
 
 module _ (book : List ℕ) (counts : Counts) (h : checkOf book ≡ Good counts) where
   turn-good : (k : ℕ) → k < counts .turns → JoinRules (counts .links) (linkTo (linkTable book counts)) (linkFrom (linkTable book counts)) (turnTable book counts) k
   turn-good k l = join-rules _ _ _ _ k (passes book counts h .tables .turn k l)
 
-  pair-good : (k : ℕ) → k < counts .pairs → JoinRules (counts .turns) (joinSecond (turnTable book counts)) (joinFirst (turnTable book counts)) (pairTable book counts) k
+  pair-good : (k : ℕ) → k < counts .pairs → JoinRules (counts .turns) (turnSecond (turnTable book counts)) (turnFirst (turnTable book counts)) (pairTable book counts) k
   pair-good k l = join-rules _ _ _ _ k (passes book counts h .tables .pair k l)
 
   pub good-book : GoodBook book counts

@@ -1,10 +1,12 @@
 pub mod Within
 pub mod Limits
 pub mod FirstBad
+pub mod Passing
 pub mod Scans
 pub mod Answers
 pub mod Passes
 pub mod Rules
+pub mod Halving
 pub mod GoodBook
 pub mod NumberWritten
 pub mod WalkWritten

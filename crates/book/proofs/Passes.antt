@@ -1,22 +1,21 @@
 -- A check answers Good exactly when every one of its tests holds.
-use Prim.Native.Nat.{ℕ, zero, suc, _+_, _≤_, _<_}
+use Prim.Native.Nat.{ℕ, _≤_, _<_}
 use mathlib.Core.Path.{_≡_, refl, sym, ap, _∙_}
 use mathlib.Core.List.{List}
 use mathlib.Core.Bool.{Bool, true, false}
 use native.Mathlib.Omega.{arith}
 use native.Mathlib.Decide.{decLe}
 use lib.ListN.{length}
-use lib.Dec.{leb, eqb}
 use borrow.Author.Tests.{leb-true, le-leb, eqb-true, eq-eqb}
 use Rattle.book.specs.declared.Counts.{Counts}
 use Rattle.book.specs.declared.Refusal.{Refusal}
 use Rattle.book.specs.declared.Checked.{Checked}
-use Rattle.book.specs.declared.Checked.the-variants.{Good, Refused}
+use Rattle.book.specs.declared.Checked.the-variants.{Good}
 use Rattle.book.specs.Header.{headerBytes, markGood, versionGood, countsOf, countsGood}
 use Rattle.book.specs.Tables.{bookEnd, lineTable, linkTable, turnTable, pairTable}
 use Rattle.book.specs.Entries.{lineGood, linkGood, turnGood, pairGood}
 use Rattle.book.specs.FirstBad.{firstBad}
-use Rattle.book.specs.Check.{unless, unlessBad, tablesOf, tablesIn, checkOf, refusal}
+use Rattle.book.specs.Check.{unless, unlessAllGood, tablesOf, tablesIn, checkOf}
 use Rattle.book.proofs.FirstBad.{First, first-bad}
 use Rattle.book.proofs.Answers.{onward}
 
@@ -64,12 +63,12 @@ module _ (good : ℕ → Bool) (count : ℕ) where
   all-good h k l = first-bad good count .before k (omega arith) (omega arith)
 
   module _ (number : ℕ) (rest : Checked) where
-    table-passed : {counts : Counts} → unlessBad number good count rest ≡ Good counts → All good count × (rest ≡ Good counts)
+    table-passed : {counts : Counts} → unlessAllGood number good count rest ≡ Good counts → All good count × (rest ≡ Good counts)
     table-passed h =
         let p = passed _ _ _ h in
         (all-good (leb-true _ _ (p .0)), p .1)
 
-    table-onward : All good count → rest ≡ unlessBad number good count rest
+    table-onward : All good count → rest ≡ unlessAllGood number good count rest
     table-onward all = onward _ _ (le-leb _ _ (none-bad all))
 
 module _ (lines links turns pairs : List ℕ) (counts : Counts) where

@@ -1,12 +1,12 @@
 -- Each entry's test says the rules of document 01 one by one; tests of neighbours say the order of a whole table.
-use Prim.Native.Nat.{ℕ, zero, suc, _+_, _-_, _≤_, _<_}
-use mathlib.Core.Path.{_≡_, refl, sym, _∙_}
+use Prim.Native.Nat.{ℕ, zero, suc, _-_, _≤_, _<_}
+use mathlib.Core.Path.{_≡_, refl}
 use mathlib.Core.List.{List}
-use mathlib.Core.Bool.{Bool, true, false, not, _&&_, _||_}
+use mathlib.Core.Bool.{Bool, true, false, _&&_, _||_}
 use mathlib.Core.Logic.{_⊎_, inl, inr, ⊎-elim}
 use native.Mathlib.Omega.{arith}
 use native.Mathlib.Decide.{decLt}
-use lib.Dec.{ltb, leb, eqb}
+use lib.Dec.{ltb, eqb}
 use borrow.Author.Tests.{leb-true, ltb-true, eqb-true, eqb-false, ne-eqb, not-true}
 use Rattle.book.specs.Entries.{lineHeadway, mostHeadway, lineGood, linkFrom, linkTo, linkLine, linkRide, mostRide, linkGood}
 use Rattle.book.specs.Entries.{joinFirst, joinSecond, joinSeconds, mostSeconds, barred, secondsGood, ascends, joinGood}
@@ -48,16 +48,17 @@ link-rules nodes lines table k h =
       differ = eqb-false _ _ (not-true _ differ);
     }
 
--- a walk or an extra is within its limit, or bars
-pub seconds-rule : (seconds : ℕ) → secondsGood seconds ≡ true → (seconds ≤ mostSeconds) ⊎ (seconds ≡ barred)
+-- a walk or an extra that does not bar is within its limit
+pub seconds-rule : (seconds : ℕ) → secondsGood seconds ≡ true → (seconds ≡ barred → ⊥) → seconds ≤ mostSeconds
 unfolding secondsGood
-seconds-rule seconds h = ⊎-elim (λ l. inl (leb-true _ _ l)) (λ e. inr (eqb-true _ _ e)) (either-holds _ _ h)
+seconds-rule seconds h n = ⊎-elim (λ l. leb-true _ _ l) (λ e. absurd (n (eqb-true _ _ e))) (either-holds _ _ h)
 
 pub record JoinRules (count : ℕ) (ends begins : ℕ → ℕ) (table : List ℕ) (k : ℕ) : Type 0 where
   pub first : joinFirst table k < count
   pub second : joinSecond table k < count
   pub meet : ends (joinFirst table k) ≡ begins (joinSecond table k)
-  pub seconds : secondsGood (joinSeconds table k) ≡ true
+  pub seconds : (joinSeconds table k ≡ barred → ⊥) → joinSeconds table k ≤ mostSeconds
+  pub seconds-good : secondsGood (joinSeconds table k) ≡ true
   pub order : ascends table k ≡ true
 
 pub join-rules : (count : ℕ) (ends begins : ℕ → ℕ) (table : List ℕ) (k : ℕ) → joinGood count ends begins table k ≡ true → JoinRules count ends begins table k
@@ -71,7 +72,8 @@ join-rules count ends begins table k h =
       first = ltb-true _ _ first;
       second = ltb-true _ _ second;
       meet = eqb-true _ _ meet;
-      seconds = seconds;
+      seconds = seconds-rule _ seconds;
+      seconds-good = seconds;
       order = order;
     }
 

@@ -1,19 +1,18 @@
 -- The two walk bytes of one turn lie in its own entry of the turn table, so all else is read as before and a good book stays good.
-use Prim.Native.Nat.{ℕ, _+_, _-_, _*_, _≤_, _<_}
-use mathlib.Core.Path.{_≡_, refl, sym, ap, _∙_}
+use Prim.Native.Nat.{ℕ, _+_, _-_, _*_, _<_}
+use mathlib.Core.Path.{_≡_, _∙_}
 use mathlib.Core.List.{List}
-use mathlib.Core.Bool.{Bool, true, false}
+use mathlib.Core.Bool.{true}
 use native.Mathlib.Omega.{arith}
 use native.Mathlib.Decide.{ℕ-discrete}
 use lib.ListN.{length, getD, length-take, length-drop}
-use lib.Dec.{ltb, eqb}
 use borrow.Author.Tests.{lt-ltb, eq-eqb}
 use Rattle.book.specs.declared.Counts.{Counts}
 use Rattle.book.specs.declared.Checked.the-variants.{Good}
 use Rattle.book.specs.Number.{numberAt, withNumber}
 use Rattle.book.specs.Header.{headerBytes, markGood, versionGood, countsOf}
 use Rattle.book.specs.Tables.{joinBytes, linesAt, linksAt, turnsAt, pairsAt, bookEnd, lineTable, linkTable, turnTable, pairTable}
-use Rattle.book.specs.Entries.{joinFirst, joinSecond, joinSeconds, secondsGood, ascends, joinGood, turnGood, pairGood}
+use Rattle.book.specs.Entries.{joinFirst, joinSecond, joinSeconds, secondsGood, ascends, joinGood, turnGood, pairGood, turnFirst, turnSecond, turnWalk}
 use Rattle.book.specs.Check.{checkOf}
 use Rattle.book.specs.Walk.{withWalk}
 use Rattle.book.proofs.Passes.{All, GoodTables, Passes, passes, checks-good}
@@ -74,10 +73,10 @@ pub record WalkWritten (book : List ℕ) (counts : Counts) (turn walk : ℕ) : T
   pub other-byte : (i : ℕ) → (i ≡ turnsAt counts + (joinBytes * turn + 4) → ⊥) → (i ≡ turnsAt counts + (joinBytes * turn + 4) + 1 → ⊥) → getD (withWalk book counts turn walk) i 0 ≡ getD book i 0
   pub lines : lineTable (withWalk book counts turn walk) counts ≡ lineTable book counts
   pub links : linkTable (withWalk book counts turn walk) counts ≡ linkTable book counts
-  pub first : (k : ℕ) → joinFirst (turnTable (withWalk book counts turn walk) counts) k ≡ joinFirst (turnTable book counts) k
-  pub second : (k : ℕ) → joinSecond (turnTable (withWalk book counts turn walk) counts) k ≡ joinSecond (turnTable book counts) k
-  pub new-walk : joinSeconds (turnTable (withWalk book counts turn walk) counts) turn ≡ walk
-  pub other-walk : (k : ℕ) → (k ≡ turn → ⊥) → joinSeconds (turnTable (withWalk book counts turn walk) counts) k ≡ joinSeconds (turnTable book counts) k
+  pub first : (k : ℕ) → turnFirst (turnTable (withWalk book counts turn walk) counts) k ≡ turnFirst (turnTable book counts) k
+  pub second : (k : ℕ) → turnSecond (turnTable (withWalk book counts turn walk) counts) k ≡ turnSecond (turnTable book counts) k
+  pub new-walk : turnWalk (turnTable (withWalk book counts turn walk) counts) turn ≡ walk
+  pub other-walk : (k : ℕ) → (k ≡ turn → ⊥) → turnWalk (turnTable (withWalk book counts turn walk) counts) k ≡ turnWalk (turnTable book counts) k
   pub pairs : pairTable (withWalk book counts turn walk) counts ≡ pairTable book counts
   pub good : secondsGood walk ≡ true → checkOf (withWalk book counts turn walk) ≡ Good counts
 
@@ -92,7 +91,7 @@ module _ (book : List ℕ) (counts : Counts) (turn walk : ℕ) (checked : checkO
   kept = passes book counts checked
 
   lines-kept : lineTable edited counts ≡ lineTable book counts
-  lines-kept = part-before book (linesAt counts) (linksAt counts) at walk (omega arith) (omega arith)
+  lines-kept = part-before book linesAt (linksAt counts) at walk (omega arith) (omega arith)
 
   links-kept : linkTable edited counts ≡ linkTable book counts
   links-kept = part-before book (linksAt counts) (turnsAt counts) at walk (omega arith) (omega arith)
@@ -135,7 +134,7 @@ module _ (book : List ℕ) (counts : Counts) (turn walk : ℕ) (checked : checkO
   edited-turn : secondsGood walk ≡ true → All (turnGood (counts .links) (linkTable book counts) (withNumber (turnTable book counts) (joinBytes * turn + 4) walk)) (counts .turns)
   edited-turn good k l =
       let rules = join-rules _ _ _ _ k (kept .tables .turn k l) in
-      turn-kept (turnTable book counts) turn walk _ _ _ k (seconds-good (turnTable book counts) turn walk k turn-room good (rules .seconds)) rules
+      turn-kept (turnTable book counts) turn walk _ _ _ k (seconds-good (turnTable book counts) turn walk k turn-room good (rules .seconds-good)) rules
 
   edited-tables : secondsGood walk ≡ true → GoodTables (lineTable edited counts) (linkTable edited counts) (turnTable edited counts) (pairTable edited counts) counts
   edited-tables good =

@@ -22,16 +22,16 @@ unless true found rest = rest
 unless false found rest = Refused found
 
 -- 6 to 9: the place is the number of the first bad entry, from 0 in its own table
-abbrev pub unlessBad : ℕ → (ℕ → Bool) → ℕ → Checked → Checked
-unlessBad number good count rest = unless (leb count (firstBad good count)) (refusal number (firstBad good count)) rest
+abbrev pub unlessAllGood : ℕ → (ℕ → Bool) → ℕ → Checked → Checked
+unlessAllGood number good count rest = unless (leb count (firstBad good count)) (refusal number (firstBad good count)) rest
 
 -- 6, 7, 8, 9: a line, link, turn, pair breaks a rule, of tables with these counts
 unfoldable pub tablesOf : List ℕ → List ℕ → List ℕ → List ℕ → Counts → Checked
 tablesOf lines links turns pairs counts =
-    unlessBad 6 (lineGood lines) (counts .lines)
-    (unlessBad 7 (linkGood (counts .nodes) (counts .lines) links) (counts .links)
-    (unlessBad 8 (turnGood (counts .links) links turns) (counts .turns)
-    (unlessBad 9 (pairGood (counts .turns) turns pairs) (counts .pairs)
+    unlessAllGood 6 (lineGood lines) (counts .lines)
+    (unlessAllGood 7 (linkGood (counts .nodes) (counts .lines) links) (counts .links)
+    (unlessAllGood 8 (turnGood (counts .links) links turns) (counts .turns)
+    (unlessAllGood 9 (pairGood (counts .turns) turns pairs) (counts .pairs)
     (Good counts))))
 
 abbrev pub tablesIn : List ℕ → Counts → Checked

@@ -79,10 +79,30 @@ joinGood count ends begins table k =
     && (ltb (joinSecond table k) count
     && (eqb (ends (joinFirst table k)) (begins (joinSecond table k)) && secondsGood (joinSeconds table k) && ascends table k))
 
--- Turn: it joins two links, and a link ends at its to node and begins at its from node
+-- Turn: first link, second link, walk
+abbrev pub turnFirst : List ℕ → ℕ → ℕ
+turnFirst table k = joinFirst table k
+
+abbrev pub turnSecond : List ℕ → ℕ → ℕ
+turnSecond table k = joinSecond table k
+
+abbrev pub turnWalk : List ℕ → ℕ → ℕ
+turnWalk table k = joinSeconds table k
+
+-- it joins two links, and a link ends at its to node and begins at its from node
 abbrev pub turnGood : ℕ → List ℕ → List ℕ → ℕ → Bool
 turnGood links linkTable = joinGood links (linkTo linkTable) (linkFrom linkTable)
 
--- Pair: it joins two turns, and a turn ends with its second link and begins with its first
+-- Pair: first turn, second turn, extra
+abbrev pub pairFirst : List ℕ → ℕ → ℕ
+pairFirst table k = joinFirst table k
+
+abbrev pub pairSecond : List ℕ → ℕ → ℕ
+pairSecond table k = joinSecond table k
+
+abbrev pub pairExtra : List ℕ → ℕ → ℕ
+pairExtra table k = joinSeconds table k
+
+-- it joins two turns, and a turn ends with its second link and begins with its first
 abbrev pub pairGood : ℕ → List ℕ → List ℕ → ℕ → Bool
-pairGood turns turnTable = joinGood turns (joinSecond turnTable) (joinFirst turnTable)
+pairGood turns turnTable = joinGood turns (turnSecond turnTable) (turnFirst turnTable)

@@ -5,5 +5,6 @@ pub mod Entries
 pub mod FirstBad
 pub mod Check
 pub mod Walk
+pub mod Runs
 pub mod BookA
 pub mod steps

@@ -16,11 +16,11 @@ abbrev pub joinBytes : ℕ
 joinBytes = 6
 
 -- where each table begins, and where the book ends
-abbrev pub linesAt : Counts → ℕ
-linesAt counts = headerBytes
+abbrev pub linesAt : ℕ
+linesAt = headerBytes
 
 abbrev pub linksAt : Counts → ℕ
-linksAt counts = linesAt counts + lineBytes * counts .lines
+linksAt counts = linesAt + lineBytes * counts .lines
 
 abbrev pub turnsAt : Counts → ℕ
 turnsAt counts = linksAt counts + linkBytes * counts .links
@@ -36,7 +36,7 @@ abbrev pub part : List ℕ → ℕ → ℕ → List ℕ
 part book start end = take (end - start) (drop start book)
 
 abbrev pub lineTable : List ℕ → Counts → List ℕ
-lineTable book counts = part book (linesAt counts) (linksAt counts)
+lineTable book counts = part book linesAt (linksAt counts)
 
 abbrev pub linkTable : List ℕ → Counts → List ℕ
 linkTable book counts = part book (linksAt counts) (turnsAt counts)

@@ -18,7 +18,7 @@ ghost use Prim.Native.Nat.{_+_, _<_};
 ghost use Rattle.book.specs.declared.Checked.the-variants.{Good};
 ghost use Rattle.book.specs.Tables.{linkBytes, joinBytes, lineTable, linkTable, turnTable, pairTable};
 ghost use Rattle.book.specs.Entries.{field, lineHeadway, linkFrom, linkTo, linkLine, linkRide};
-ghost use Rattle.book.specs.Entries.{joinFirst, joinSecond, joinSeconds};
+ghost use Rattle.book.specs.Entries.{turnFirst, turnSecond, turnWalk, pairFirst, pairSecond, pairExtra};
 ghost use Rattle.book.specs.Check.{checkOf};
 ghost use Rattle.book.specs.Walk.{withWalk};
 
@@ -76,21 +76,21 @@ fn turn_field(book: &[u8], counts: Counts, turn: TurnNumber, offset: usize) -> u
 
 pub fn turn_first(book: &[u8], counts: Counts, turn: TurnNumber) -> LinkNumber
     requires { ⌜ (checkOf (now book) ≡ Good counts) × (turn .0 < counts .turns) ⌝ }
-    ensures { λ r. ⌜ r .0 ≡ joinFirst (turnTable (now (book .entry)) counts) (turn .0) ⌝ }
+    ensures { λ r. ⌜ r .0 ≡ turnFirst (turnTable (now (book .entry)) counts) (turn .0) ⌝ }
 {
     LinkNumber(turn_field(book, counts, turn, 0))
 }
 
 pub fn turn_second(book: &[u8], counts: Counts, turn: TurnNumber) -> LinkNumber
     requires { ⌜ (checkOf (now book) ≡ Good counts) × (turn .0 < counts .turns) ⌝ }
-    ensures { λ r. ⌜ r .0 ≡ joinSecond (turnTable (now (book .entry)) counts) (turn .0) ⌝ }
+    ensures { λ r. ⌜ r .0 ≡ turnSecond (turnTable (now (book .entry)) counts) (turn .0) ⌝ }
 {
     LinkNumber(turn_field(book, counts, turn, 2))
 }
 
 pub fn turn_walk(book: &[u8], counts: Counts, turn: TurnNumber) -> u16
     requires { ⌜ (checkOf (now book) ≡ Good counts) × (turn .0 < counts .turns) ⌝ }
-    ensures { λ r. ⌜ r ≡ joinSeconds (turnTable (now (book .entry)) counts) (turn .0) ⌝ }
+    ensures { λ r. ⌜ r ≡ turnWalk (turnTable (now (book .entry)) counts) (turn .0) ⌝ }
 {
     turn_field(book, counts, turn, 4)
 }
@@ -105,21 +105,21 @@ fn pair_field(book: &[u8], counts: Counts, pair: u16, offset: usize) -> u16
 
 pub fn pair_first(book: &[u8], counts: Counts, pair: u16) -> TurnNumber
     requires { ⌜ (checkOf (now book) ≡ Good counts) × (pair < counts .pairs) ⌝ }
-    ensures { λ r. ⌜ r .0 ≡ joinFirst (pairTable (now (book .entry)) counts) pair ⌝ }
+    ensures { λ r. ⌜ r .0 ≡ pairFirst (pairTable (now (book .entry)) counts) pair ⌝ }
 {
     TurnNumber(pair_field(book, counts, pair, 0))
 }
 
 pub fn pair_second(book: &[u8], counts: Counts, pair: u16) -> TurnNumber
     requires { ⌜ (checkOf (now book) ≡ Good counts) × (pair < counts .pairs) ⌝ }
-    ensures { λ r. ⌜ r .0 ≡ joinSecond (pairTable (now (book .entry)) counts) pair ⌝ }
+    ensures { λ r. ⌜ r .0 ≡ pairSecond (pairTable (now (book .entry)) counts) pair ⌝ }
 {
     TurnNumber(pair_field(book, counts, pair, 2))
 }
 
 pub fn pair_extra(book: &[u8], counts: Counts, pair: u16) -> u16
     requires { ⌜ (checkOf (now book) ≡ Good counts) × (pair < counts .pairs) ⌝ }
-    ensures { λ r. ⌜ r ≡ joinSeconds (pairTable (now (book .entry)) counts) pair ⌝ }
+    ensures { λ r. ⌜ r ≡ pairExtra (pairTable (now (book .entry)) counts) pair ⌝ }
 {
     pair_field(book, counts, pair, 4)
 }

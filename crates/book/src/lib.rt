@@ -4,10 +4,12 @@ mod entries;
 mod fields;
 mod header;
 mod numbers;
+mod runs;
 mod tables;
 
 pub use checks::check;
 pub use checks::given_back;
+pub use entries::seconds_good;
 pub use fields::line_headway;
 pub use fields::link_from;
 pub use fields::link_line;
@@ -20,6 +22,8 @@ pub use fields::turn_first;
 pub use fields::turn_second;
 pub use fields::turn_walk;
 pub use fields::write_walk;
+pub use runs::pairs_from;
+pub use runs::turns_from;
 
 // A link number, a turn number and a node number are numbered apart; none may stand where another is meant.
 pub struct LinkNumber(pub u16);

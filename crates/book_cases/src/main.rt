@@ -2,7 +2,6 @@
 use book::check;
 use book::given_back;
 use cases::LARGEST_BYTES;
-use cases::answer_line;
 use cases::book_a;
 use cases::put;
 use cases::put_book_a;
@@ -10,9 +9,14 @@ use cases::put_header;
 use cases::put_largest;
 use cases::put_link;
 use cases::put_three;
+use cases::say_expected_refusal;
+use cases::say_name;
+use cases::say_refusal;
 
 fn run(name: &[u8], book: &[u8], number: u64, place: u64) {
-    answer_line(name, given_back(check(book)), number, place);
+    say_name(name);
+    say_refusal(given_back(check(book)));
+    say_expected_refusal(number, place);
 }
 
 // The first bytes of a book.
@@ -46,10 +50,10 @@ fn run_two(
 }
 
 // A book of nothing but its header.
-fn run_header(name: &[u8], nodes: u16, carry_over: u16, number: u64) {
+fn run_header(name: &[u8], nodes: u16, carry_over: u16, number: u64, place: u64) {
     let mut book = [0u8; 17];
     put_header(&mut book, nodes, 0, 0, 0, 0, carry_over);
-    run(name, &book, number, 0);
+    run(name, &book, number, place);
 }
 
 fn lengths() {
@@ -61,7 +65,7 @@ fn lengths() {
     run_part(b"book A, one byte too few", &longer, 96, 5, 0);
     run_part(b"book A", &longer, 97, 0, 0);
     run(b"book A, one byte too many", &longer, 5, 0);
-    run_header(b"all counts 0", 0, 0, 0);
+    run_header(b"all counts 0", 0, 0, 0, 0);
 }
 
 fn marks_and_versions() {
@@ -70,22 +74,31 @@ fn marks_and_versions() {
     run_written(b"mark LTC", 2, 323, 2, 0);
     run_written(b"version 0", 3, 0, 3, 0);
     run_written(b"version 2", 3, 2, 3, 0);
+}
+
+fn more_marks_and_versions() {
     run_written(b"version 257", 3, 257, 3, 0);
     run_two(b"mark and version", 0, 21581, 3, 2, 2, 0);
     run_two(b"version and nodes", 3, 2, 5, 1025, 3, 0);
 }
 
 fn counts() {
-    run_header(b"1024 nodes, no link", 1024, 0, 0);
-    run_header(b"1025 nodes, no link", 1025, 0, 4);
-    run_header(b"carry-over 3600", 0, 3600, 0);
-    run_header(b"carry-over 3601", 0, 3601, 4);
+    run_header(b"1024 nodes, no link", 1024, 0, 0, 0);
+    run_header(b"1025 nodes, no link", 1025, 0, 4, 0);
+    run_header(b"carry-over 3600", 0, 3600, 0, 0);
+    run_header(b"carry-over 3601", 0, 3601, 4, 0);
     run_written(b"256 lines, length of 2", 7, 256, 5, 0);
+}
+
+fn more_counts() {
     run_written(b"257 lines", 7, 257, 4, 0);
     run_written(b"2048 links, length of 5", 9, 2048, 5, 0);
     run_written(b"2049 links", 9, 2049, 4, 0);
     run_written(b"4096 turns, length of 5", 11, 4096, 5, 0);
     run_written(b"4097 turns", 11, 4097, 4, 0);
+}
+
+fn further_counts() {
     run_written(b"2048 pairs, length of 1", 13, 2048, 5, 0);
     run_written(b"2049 pairs", 13, 2049, 4, 0);
     run_written(b"65535 links", 9, 65535, 4, 0);
@@ -104,6 +117,9 @@ fn links() {
     run_written(b"from node 3", 21, 3, 0, 0);
     run_written(b"from node 4 of 4", 21, 4, 7, 0);
     run_written(b"to node 4 of 4", 55, 4, 7, 4);
+}
+
+fn more_links() {
     run_written(b"line 1", 41, 1, 0, 0);
     run_written(b"line 2 of 2", 41, 2, 7, 2);
     run_written(b"from equal to to", 21, 1, 7, 0);
@@ -123,14 +139,30 @@ fn turns() {
     run_written(b"walk 65534", 83, 65534, 8, 3);
     run_written(b"walk 65535", 83, 65535, 0, 0);
     run_written(b"walk 3601, first turn", 65, 3601, 8, 0);
+}
+
+fn more_turns() {
     run_written(b"first link 5 of 5", 85, 5, 8, 4);
     run_written(b"second link 5 of 5", 87, 5, 8, 4);
     run_written(b"links that do not meet", 69, 4, 8, 1);
     run_written(b"a link turns into itself", 69, 1, 8, 1);
     run_written(b"a turn standing twice", 75, 2, 8, 2);
+}
+
+fn further_turns() {
     run_two(b"turns out of order", 69, 3, 75, 2, 8, 2);
     run_two(b"first links out of order", 61, 3, 63, 1, 8, 1);
     run_two(b"two bad turns", 83, 3601, 71, 3601, 8, 1);
+    run_two(b"a turn of no link after a bad walk", 71, 3601, 85, 5, 8, 1);
+    run_two(
+        b"a bad walk after links that do not meet",
+        69,
+        4,
+        83,
+        3601,
+        8,
+        1,
+    );
 }
 
 fn pairs() {
@@ -139,6 +171,9 @@ fn pairs() {
     run_written(b"extra 65534", 95, 65534, 9, 0);
     run_written(b"extra 65535", 95, 65535, 0, 0);
     run_written(b"first turn 5 of 5", 91, 5, 9, 0);
+}
+
+fn more_pairs() {
     run_written(b"second turn 5 of 5", 93, 5, 9, 0);
     run_written(b"turns that do not meet", 93, 3, 9, 0);
     run_written(b"a turn pairs with itself", 93, 0, 9, 0);
@@ -166,9 +201,16 @@ fn pairs_in_order() {
     run(b"first turns out of order", &book, 9, 1);
     put_three(&mut book, 91, 0, 2, 0);
     run(b"second turns out of order", &book, 9, 1);
+    put_three(&mut book, 91, 0, 1, 3601);
+    put_three(&mut book, 97, 5, 2, 0);
+    run(b"two bad pairs", &book, 9, 0);
+    put_three(&mut book, 91, 0, 3, 0);
+    put_three(&mut book, 97, 0, 4, 3601);
+    run(b"two bad pairs, by other rules", &book, 9, 0);
 }
 
 fn several_tables() {
+    run_two(b"a bad line and a bad link", 19, 7201, 51, 36001, 6, 1);
     run_two(b"a bad line and a bad pair", 95, 3601, 19, 7201, 6, 1);
     run_two(b"a bad link and a bad turn", 83, 3601, 51, 36001, 7, 3);
     run_two(b"a bad turn and a bad pair", 95, 3601, 83, 3601, 8, 3);
@@ -202,18 +244,31 @@ fn largest() {
     run_largest(b"largest book, first pair", 41493, 3601, 9, 0);
     run_largest(b"largest book, pair 1024", 47637, 3601, 9, 1024);
     run_largest(b"largest book, last pair", 53775, 3601, 9, 2047);
-    run_largest(b"largest book, last turn of pair", 53773, 4096, 9, 2047);
+    run_largest(
+        b"largest book, last pair, second turn 4096 of 4096",
+        53773,
+        4096,
+        9,
+        2047,
+    );
 }
 
 fn main() {
     lengths();
     marks_and_versions();
+    more_marks_and_versions();
     counts();
+    more_counts();
+    further_counts();
     lines();
     links();
+    more_links();
     no_line();
     turns();
+    more_turns();
+    further_turns();
     pairs();
+    more_pairs();
     pairs_in_order();
     several_tables();
     largest();

@@ -2,21 +2,34 @@
 use book::Refusal;
 use libc::STDOUT_FILENO;
 
-fn say(text: &[u8]) {
+pub fn say(text: &[u8]) {
     io::write_all(STDOUT_FILENO, text);
 }
 
-fn say_number(n: u64) {
+pub fn say_number(n: u64) {
     io::print_decimal(STDOUT_FILENO, n);
 }
 
-// A number and a place came; document 01 says these.
-pub fn answer_line(name: &[u8], came: Refusal, number: u64, place: u64) {
+pub fn say_name(name: &[u8]) {
     say(name);
     say(b": ");
-    say_number(came.number as u64);
+}
+
+// What document 01 says, and the end of the line.
+pub fn say_expected(text: &[u8]) {
+    say(b", document 01 says ");
+    say(text);
+    say(b"\n");
+}
+
+pub fn say_refusal(found: Refusal) {
+    say_number(found.number as u64);
     say(b" ");
-    say_number(came.place as u64);
+    say_number(found.place as u64);
+}
+
+// The same for a number and a place.
+pub fn say_expected_refusal(number: u64, place: u64) {
     say(b", document 01 says ");
     say_number(number);
     say(b" ");

@@ -1,4 +1,5 @@
 -- Each test of the code is the test of the definition, and they stand in the same order.
+use Prim.Native.Nat.{_≤_}
 use borrow.Author.Needs.{needs}
 use borrow.Author.Tests.{lt-leb, le-leb, eq-eqb, ne-eqb}
 use denote.Ref.{now}
@@ -6,6 +7,7 @@ use lib.Dec.{leb}
 use lib.ListN.{length}
 use mathlib.Core.Bool.{true}
 use mathlib.Core.Path.{_≡_, sym, _∙_, ap}
+use native.Mathlib.Omega.{arith}
 use Rattle.book.specs.Check.{checkOf, tablesIn}
 use Rattle.book.specs.Header.{headerBytes, markGood, versionGood, countsOf, countsGood}
 use Rattle.book.specs.Tables.{bookEnd}
@@ -15,7 +17,9 @@ use Rattle.book.proofs.checks.check.Tie as tie
 
 -- what each test says where it is passed
 long : (c : tie.Else1) → leb headerBytes (length (now (c .before .before .args .book))) ≡ true
-long c = le-leb _ _ (c .if1 .left)
+long c =
+    let h : headerBytes ≤ length (now (c .before .before .args .book)) = omega arith in
+    le-leb _ _ h
 
 marked : (c : tie.Else2) → markGood (now (c .before .before .before .before .args .book)) ≡ true
 marked c = held (c .before .mark-good .ensures) (c .if2 .left)

@@ -1,0 +1,58 @@
+-- The step to the turn that the link makes says whether the link may come, and what it adds.
+use borrow.Author.Needs.{needs}
+use denote.Ref.{now}
+use Rattle.walk.proofs.OneMore.{missing-stops, barred-stops, seconds-onward}
+use Rattle.walk.proofs.onward.advance.Statement.{statement}
+use Rattle.walk.proofs.onward.advance.Tie as tie
+
+turn-of-requires : tie.Need-turn-of-requires
+turn-of-requires c κs = search needs
+
+cast-if1 : tie.Need-cast-if1
+cast-if1 c = search needs
+
+returns : tie.Need-returns
+returns c =
+    let at = c .before .before in
+    let start = at .before .before .before in
+    missing-stops (now (start .args .book)) (start .args .counts) (now (start .args .walks)) (start .pre .0) (start .args .before) (start .args .last .0) (start .args .link .0) (at .turn-of .ensures) (c .if1 .taken)
+
+stands-after-requires : tie.Need-stands-after-requires
+stands-after-requires c κs = search needs
+
+step-to-requires : tie.Need-step-to-requires
+step-to-requires c κs = search needs
+
+enum-told : tie.Need-enum-told
+enum-told c = search needs
+
+enum-known-seconds : tie.Need-enum-known-seconds
+enum-known-seconds c = search needs
+
+returns-2 : tie.Need-returns-2
+returns-2 c =
+    let after = c .before .before .before in
+    let at = after .before .before .before in
+    let start = at .before .before .before in
+    barred-stops (now (start .args .book)) (start .args .counts) (now (start .args .walks)) (start .pre .0) (start .args .before) (start .args .last .0) (start .args .link .0) (at .turn-of .ensures) (search needs) (after .stands-after .ensures) (c .before .before .step-to .ensures) (c .enum-told .given .1)
+
+returns-3 : tie.Need-returns-3
+returns-3 c =
+    let after = c .before .before .before .before in
+    let at = after .before .before .before in
+    let start = at .before .before .before in
+    seconds-onward (now (start .args .book)) (start .args .counts) (now (start .args .walks)) (start .pre .0) (start .args .before) (start .args .last .0) (start .args .link .0) (at .turn-of .ensures) (search needs) (after .stands-after .ensures) (c .before .before .before .step-to .ensures) (c .before .seconds .given .1)
+
+pub advance-spec : {M : Type 1} → statement M
+advance-spec =
+    tie.close
+    (tie.spec
+    turn-of-requires
+    cast-if1
+    returns
+    stands-after-requires
+    step-to-requires
+    enum-told
+    enum-known-seconds
+    returns-2
+    returns-3)

@@ -1,0 +1,101 @@
+-- Document 01, "Book A": the marked cases P1 to P10, and what each says of walks. Beside them, sheets that are refused.
+use Prim.Native.Nat.{ℕ, _<_}
+use mathlib.Core.Path.{_≡_}
+use mathlib.Core.List.{List, [], _∷_}
+use lib.ListN.{length, getD}
+use Rattle.book.specs.BookA.{bookA, countsA}
+use Rattle.book.specs.Walk.{withWalk}
+use Rattle.walk.specs.View.{View, viewOf}
+use Rattle.walk.specs.Walks.{costOf}
+use Rattle.walk.specs.Labels.{Entry, TrueTurn, TrueLink, NodeWalk, Route, noEntry, startBack}
+use Rattle.walk.specs.Counting.{differing}
+
+-- turns of book A with a new walk
+pub record Edit : Type 0 where
+  pub turn : ℕ
+  pub walk : ℕ
+
+abbrev pub set : ℕ → ℕ → Edit
+set turn walk = record { turn = turn; walk = walk }
+
+abbrev pub closed : ℕ → Edit
+closed turn = set turn 65535
+
+abbrev pub edited : List ℕ → List Edit → List ℕ
+edited book [] = book
+edited book (e ∷ rest) = edited (withWalk book countsA (e .turn) (e .walk)) rest
+
+abbrev pub entry : ℕ → ℕ → ℕ → Entry
+entry cost links back = record { cost = cost; links = links; back = back }
+
+pub data Claim : Type 0 where
+  turnsAre : List Entry → Claim
+  linksAre : List Entry → Claim
+  -- to a destination: its cost and its links in travel order
+  routeIs : ℕ → ℕ → List ℕ → Claim
+  routeCosts : ℕ → ℕ → Claim
+  noRoute : ℕ → Claim
+  -- turn entries and link entries that differ from those of book A as given
+  countsAre : ℕ → ℕ → Claim
+
+pub record Case : Type 0 where
+  pub edits : List Edit
+  pub claims : List Claim
+
+abbrev pub after : List Edit → List Claim → Case
+after edits claims = record { edits = edits; claims = claims }
+
+-- P1 to P10, in this order
+abbrev pub cases : List Case
+cases =
+    after [] (turnsAre (entry 90 2 startBack ∷ entry 342 5 3 ∷ entry 153 3 0 ∷ entry 207 4 2 ∷ entry 442 2 startBack ∷ []) ∷ [])
+    ∷ after [] (linksAre (entry 40 1 startBack ∷ entry 90 2 0 ∷ entry 342 5 1 ∷ entry 153 3 2 ∷ entry 403 1 startBack ∷ []) ∷ [])
+    ∷ after [] (routeIs 3 342 (0 ∷ 1 ∷ 3 ∷ 1 ∷ 2 ∷ []) ∷ [])
+    ∷ after [] (routeIs 0 0 [] ∷ [])
+    ∷ after (closed 3 ∷ []) (countsAre 2 1 ∷ routeIs 3 442 (4 ∷ 2 ∷ []) ∷ [])
+    ∷ after (closed 3 ∷ closed 4 ∷ []) (noRoute 3 ∷ [])
+    ∷ after (set 3 0 ∷ []) (routeCosts 3 238 ∷ [])
+    ∷ after (set 3 103 ∷ []) (routeIs 3 441 (0 ∷ 1 ∷ 3 ∷ 1 ∷ 2 ∷ []) ∷ [])
+    ∷ after (set 3 104 ∷ []) (routeIs 3 442 (4 ∷ 2 ∷ []) ∷ [])
+    ∷ after (set 0 10 ∷ []) (countsAre 4 3 ∷ routeCosts 3 352 ∷ [])
+    ∷ []
+
+pub record Table (count : ℕ) (TrueAt : ℕ → Entry → Type 0) (rows : List Entry) : Type 0 where
+  pub as-long : length rows ≡ count
+  pub each : (k : ℕ) → k < count → TrueAt k (getD rows k noEntry)
+
+pub record RouteIs (U : View) (s cost : ℕ) (links : List ℕ) : Type 0 where
+  pub route : Route U 0 s links
+  pub costs : costOf U links ≡ cost
+
+pub record CountsAre (U changed : View) (turns links : ℕ) : Type 0 where
+  pub turn-before : ℕ → Entry
+  pub turn-after : ℕ → Entry
+  pub link-before : ℕ → Entry
+  pub link-after : ℕ → Entry
+  pub true-turn-before : (t : ℕ) → t < U .turns → TrueTurn U 0 t (turn-before t)
+  pub true-turn-after : (t : ℕ) → t < changed .turns → TrueTurn changed 0 t (turn-after t)
+  pub true-link-before : (l : ℕ) → l < U .links → TrueLink U 0 l (link-before l)
+  pub true-link-after : (l : ℕ) → l < changed .links → TrueLink changed 0 l (link-after l)
+  pub turn-count : differing turn-before turn-after (U .turns) ≡ turns
+  pub link-count : differing link-before link-after (U .links) ≡ links
+
+-- what a claim says, of book A as given and of the edited one
+abbrev pub Says : View → View → Claim → Type 0
+Says U changed (turnsAre rows) = Table (changed .turns) (TrueTurn changed 0) rows
+Says U changed (linksAre rows) = Table (changed .links) (TrueLink changed 0) rows
+Says U changed (routeIs s cost links) = RouteIs changed s cost links
+Says U changed (routeCosts s cost) = (links : List ℕ) × RouteIs changed s cost links
+Says U changed (noRoute s) = (links : List ℕ) → NodeWalk changed 0 s links → ⊥
+Says U changed (countsAre turns links) = CountsAre U changed turns links
+
+abbrev pub All : {A : Type 0} → (A → Type 0) → List A → Type 0
+All P [] = Unit {0}
+All P (a ∷ rest) = P a × All P rest
+
+abbrev pub viewA : List Edit → View
+viewA edits = viewOf (edited bookA edits) countsA
+
+-- every claim of a case holds
+abbrev pub Holds : Case → Type 0
+Holds c = All (Says (viewA []) (viewA (c .edits))) (c .claims)

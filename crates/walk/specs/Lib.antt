@@ -1,0 +1,9 @@
+pub mod View
+pub mod Walks
+pub mod Order
+pub mod Labels
+pub mod Given
+pub mod Counting
+pub mod Cases
+pub mod RefusedSheets
+pub mod steps

@@ -1,0 +1,73 @@
+-- Document 01, "Habits that give a neat wrong sheet": what each habit would give, on book A or on the smallest book that shows it.
+use Prim.Native.Nat.{ℕ}
+use mathlib.Core.Path.{_≡_}
+use mathlib.Core.List.{List, [], _∷_, _++_}
+use Rattle.book.specs.declared.Counts.{Counts}
+use Rattle.book.specs.declared.Checked.the-variants.{Good}
+use Rattle.book.specs.Number.{withNumber}
+use Rattle.book.specs.Check.{checkOf}
+use Rattle.book.specs.BookA.{bookA, countsA, written}
+use Rattle.walk.specs.View.{View, viewOf}
+use Rattle.walk.specs.Walks.{costOf}
+use Rattle.walk.specs.Labels.{Entry, TrueTurn, Route}
+use Rattle.walk.specs.Cases.{closed, edited, entry}
+
+pub data Sheet : Type 0 where
+  -- a turn's entry
+  turnEntry : ℕ → Entry → Sheet
+  -- the route to a destination
+  routeTo : ℕ → List ℕ → Sheet
+  -- the cost of a walk
+  walkCost : List ℕ → ℕ → Sheet
+
+-- a good book, and a sheet of it
+pub record Row : Type 0 where
+  pub book : List ℕ
+  pub counts : Counts
+  pub sheet : Sheet
+
+abbrev pub ofBook : List ℕ → Counts → Sheet → Row
+ofBook book counts sheet = record { book = book; counts = counts; sheet = sheet }
+
+-- two stops, a link each way, and no cost anywhere
+abbrev pub circle : List ℕ
+circle =
+    76 ∷ 84 ∷ 66 ∷ written (1 ∷ 2 ∷ 1 ∷ 2 ∷ 2 ∷ 0 ∷ 0 ∷ [])
+    ++ written (0 ∷ [])
+    ++ written (0 ∷ 1 ∷ 0 ∷ 0 ∷ [])
+    ++ written (1 ∷ 0 ∷ 0 ∷ 0 ∷ [])
+    ++ written (0 ∷ 1 ∷ 0 ∷ [])
+    ++ written (1 ∷ 0 ∷ 0 ∷ [])
+
+abbrev pub countsOfCircle : Counts
+countsOfCircle = record { nodes = 2; lines = 1; links = 2; turns = 2; pairs = 0; «carry_over» = 0 }
+
+-- book A with its pair listed at 0 seconds and a walk of 10 in turn 0
+abbrev pub listedAtZero : List ℕ
+listedAtZero = withNumber (withNumber bookA 95 0) 65 10
+
+abbrev pub sheets : List Row
+sheets =
+    -- one label per link keeps link 1 at 90 and loses the loop
+    ofBook bookA countsA (routeTo 3 (4 ∷ 2 ∷ []))
+    ∷ ofBook bookA countsA (turnEntry 1 (entry 442 3 4))
+    -- a price of 900 in place of a ban gives a banned walk a cost
+    ∷ ofBook (edited bookA (closed 3 ∷ closed 4 ∷ [])) countsA (turnEntry 1 (entry 1025 3 0))
+    ∷ ofBook (edited bookA (closed 3 ∷ closed 4 ∷ [])) countsA (routeTo 3 (0 ∷ 1 ∷ 2 ∷ []))
+    -- backs chosen by cost alone run in a circle
+    ∷ ofBook circle countsOfCircle (turnEntry 0 (entry 0 2 1))
+    ∷ ofBook circle countsOfCircle (turnEntry 0 (entry 0 4 1))
+    -- a closing that wipes its own entry only still leads through the closed turn
+    ∷ ofBook (edited bookA (closed 3 ∷ [])) countsA (turnEntry 1 (entry 342 5 3))
+    -- the carry-over on top of a listed extra
+    ∷ ofBook listedAtZero countsA (walkCost (0 ∷ 1 ∷ 2 ∷ []) 235)
+    ∷ []
+
+abbrev pub Denied : View → Sheet → Type 0
+Denied U (turnEntry t e) = TrueTurn U 0 t e → ⊥
+Denied U (routeTo s links) = Route U 0 s links → ⊥
+Denied U (walkCost links cost) = costOf U links ≡ cost → ⊥
+
+-- the book is good and the sheet is not its
+abbrev pub Refused : Row → Type 0
+Refused row = (checkOf (row .book) ≡ Good (row .counts)) × Denied (viewOf (row .book) (row .counts)) (row .sheet)

@@ -1,0 +1,101 @@
+-- Document 01, "Permitted walks and their cost". A walk is its list of link numbers in travel order.
+use Prim.Native.Nat.{ℕ, _+_, _/_}
+use mathlib.Core.List.{List, [], _∷_, map}
+use mathlib.Core.Bool.{Bool, true, false, not, _&&_}
+use mathlib.Core.Option.{Option, none, some}
+use lib.Dec.{ltb, eqb}
+use Rattle.book.specs.Entries.{barred}
+use Rattle.book.specs.FirstBad.{firstBad}
+use Rattle.walk.specs.declared.Between.{Between}
+use Rattle.walk.specs.declared.Between.the-variants.{Listed, Forbidden, CarriedOver, Nothing}
+use Rattle.walk.specs.View.{View}
+
+-- f of each two successive ones of a list
+abbrev pub twos : {A : Type 0} → (ℕ → ℕ → A) → List ℕ → List A
+twos f [] = []
+twos f (a ∷ []) = []
+twos f (a ∷ b ∷ rest) = f a b ∷ twos f (b ∷ rest)
+
+abbrev pub all : List Bool → Bool
+all [] = true
+all (test ∷ rest) = test && all rest
+
+abbrev pub sum : List ℕ → ℕ
+sum [] = 0
+sum (n ∷ rest) = n + sum rest
+
+-- the number of the turn from link a to link b, or the count of turns where that change is not in the table
+unfoldable pub turnOf : View → ℕ → ℕ → ℕ
+turnOf U a b = firstBad (λ t. not (eqb (U .first t) a && eqb (U .second t) b)) (U .turns)
+
+-- the turns of a walk: each two successive links
+abbrev pub turnsOf : View → List ℕ → List ℕ
+turnsOf U links = twos (turnOf U) links
+
+abbrev pub listedAs : Bool → ℕ → Between
+listedAs true extra = Forbidden
+listedAs false extra = Listed extra
+
+abbrev pub carriedIf : Bool → ℕ → Between
+carriedIf true carried = CarriedOver carried
+carriedIf false carried = Nothing
+
+-- the listed extra stands; if the pair is unlisted, the carry-over where both walks are above 0, else nothing
+unfoldable pub lookUp : Option ℕ → ℕ → ℕ → ℕ → Between
+lookUp (some extra) carried before after = listedAs (eqb extra barred) extra
+lookUp none carried before after = carriedIf (ltb 0 before && ltb 0 after) carried
+
+-- what stands between two successive turns
+abbrev pub between : View → ℕ → ℕ → Between
+between U p t = lookUp (U .listed p t) (U .carry-over) (U .walk p) (U .walk t)
+
+abbrev pub allowed : Between → Bool
+allowed (Listed extra) = true
+allowed Forbidden = false
+allowed (CarriedOver extra) = true
+allowed Nothing = true
+
+abbrev pub seconds : Between → ℕ
+seconds (Listed extra) = extra
+seconds Forbidden = 0
+seconds (CarriedOver extra) = extra
+seconds Nothing = 0
+
+abbrev pub leaves : View → ℕ → List ℕ → Bool
+leaves U r [] = true
+leaves U r (l ∷ rest) = eqb (U .from l) r
+
+-- from r: the links exist, the first leaves r, and each begins where the one before ends;
+-- each two successive links are a turn in the table that is not closed; no two successive turns are a forbidden pair
+unfoldable pub permitted : View → ℕ → List ℕ → Bool
+permitted U r links =
+    all (map (λ l. ltb l (U .links)) links)
+    && leaves U r links
+    && all (twos (λ a b. eqb (U .to a) (U .from b)) links)
+    && all (map (λ t. ltb t (U .turns)) (turnsOf U links))
+    && all (map (λ t. not (eqb (U .walk t) barred)) (turnsOf U links))
+    && all (twos (λ p t. allowed (between U p t)) (turnsOf U links))
+
+-- half a line's headway, rounded up
+abbrev pub half : ℕ → ℕ
+half headway = (headway + 1) / 2
+
+-- a link's cost: its ride plus half its line's headway
+abbrev pub linkCost : View → ℕ → ℕ
+linkCost U l = U .ride l + half (U .headway (U .line l))
+
+-- the four sums of a walk's cost
+abbrev pub rideOf : View → List ℕ → ℕ
+rideOf U links = sum (map (U .ride) links)
+
+abbrev pub waitOf : View → List ℕ → ℕ
+waitOf U links = sum (map (λ l. half (U .headway (U .line l))) links)
+
+abbrev pub walkOf : View → List ℕ → ℕ
+walkOf U links = sum (map (U .walk) (turnsOf U links))
+
+abbrev pub extraOf : View → List ℕ → ℕ
+extraOf U links = sum (twos (λ p t. seconds (between U p t)) (turnsOf U links))
+
+unfoldable pub costOf : View → List ℕ → ℕ
+costOf U links = rideOf U links + waitOf U links + walkOf U links + extraOf U links

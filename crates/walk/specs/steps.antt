@@ -1,0 +1,10 @@
+pub mod Backwards
+pub mod Net
+pub mod ViewNet
+pub mod Pairs
+pub mod Onward
+pub mod Sweep
+pub mod Reading
+pub mod Settling
+pub mod Rows
+pub mod Forward

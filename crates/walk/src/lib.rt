@@ -1,0 +1,55 @@
+// Walks over a checked book: the figures that their rules read, which walks are permitted, and what they cost.
+use book::Refusal;
+
+mod figures;
+mod given;
+mod offered;
+mod onward;
+mod pairs;
+mod steps;
+mod turns;
+mod walks;
+
+pub use given::cost_of;
+pub use offered::check;
+pub use offered::link_from;
+pub use offered::link_to;
+pub use offered::turn_first;
+pub use offered::turn_second;
+pub use pairs::between_at;
+pub use pairs::between_turns;
+pub use pairs::pair_from;
+pub use pairs::pairs_of;
+pub use steps::link_cost;
+pub use steps::step_to;
+pub use turns::followers;
+pub use turns::turn_of;
+pub use walks::read_walks;
+
+// The entries from `start` up to `end` of a table.
+pub struct Run {
+    pub start: u16,
+    pub end: u16,
+}
+
+// What stands between two successive turns of a walk.
+pub enum Between {
+    Listed(u16),
+    Forbidden,
+    CarriedOver(u16),
+    Nothing,
+}
+
+// A turn after another: it may not come, or it adds these seconds.
+pub enum Step {
+    Barred,
+    Seconds(u32),
+}
+
+// What asking for the cost of a given walk answers.
+pub enum Costed {
+    Refused(Refusal),
+    TooLong,
+    NotPermitted,
+    Permitted(u32),
+}

@@ -1,0 +1,46 @@
+// What the layers above need of the day book, offered on.
+use book::Checked;
+use book::Counts;
+use book::LinkNumber;
+use book::NodeNumber;
+use book::TurnNumber;
+ghost use mathlib.Core.Path.{_≡_};
+ghost use Prim.Native.Nat.{_<_};
+ghost use Rattle.book.specs.declared.Checked.the-variants.{Good};
+ghost use Rattle.book.specs.Tables.{linkTable, turnTable};
+ghost use Rattle.book.specs.Entries.{linkFrom, linkTo, turnFirst, turnSecond};
+ghost use Rattle.book.specs.Check.{checkOf};
+
+pub fn check(book: &[u8]) -> Checked
+    ensures { λ r. ⌜ r ≡ checkOf (now (book .entry)) ⌝ }
+{
+    book::check(book)
+}
+
+pub fn link_from(book: &[u8], counts: Counts, link: LinkNumber) -> NodeNumber
+    requires { ⌜ (checkOf (now book) ≡ Good counts) × (link .0 < counts .links) ⌝ }
+    ensures { λ r. ⌜ r .0 ≡ linkFrom (linkTable (now (book .entry)) counts) (link .0) ⌝ }
+{
+    book::link_from(book, counts, link)
+}
+
+pub fn link_to(book: &[u8], counts: Counts, link: LinkNumber) -> NodeNumber
+    requires { ⌜ (checkOf (now book) ≡ Good counts) × (link .0 < counts .links) ⌝ }
+    ensures { λ r. ⌜ r .0 ≡ linkTo (linkTable (now (book .entry)) counts) (link .0) ⌝ }
+{
+    book::link_to(book, counts, link)
+}
+
+pub fn turn_first(book: &[u8], counts: Counts, turn: TurnNumber) -> LinkNumber
+    requires { ⌜ (checkOf (now book) ≡ Good counts) × (turn .0 < counts .turns) ⌝ }
+    ensures { λ r. ⌜ r .0 ≡ turnFirst (turnTable (now (book .entry)) counts) (turn .0) ⌝ }
+{
+    book::turn_first(book, counts, turn)
+}
+
+pub fn turn_second(book: &[u8], counts: Counts, turn: TurnNumber) -> LinkNumber
+    requires { ⌜ (checkOf (now book) ≡ Good counts) × (turn .0 < counts .turns) ⌝ }
+    ensures { λ r. ⌜ r .0 ≡ turnSecond (turnTable (now (book .entry)) counts) (turn .0) ⌝ }
+{
+    book::turn_second(book, counts, turn)
+}

@@ -48,7 +48,7 @@ case-holds : (c : Case) → settled (viewA []) ≡ true → caseGood c ≡ true 
 case-holds c a h =
     let (edits, rest) = both (editsGood (c .edits)) (settled (viewA (c .edits)) && allPass (viewA []) (viewA (c .edits)) (c .claims)) h in
     let (steady, pass) = both (settled (viewA (c .edits))) (allPass (viewA []) (viewA (c .edits)) (c .claims)) rest in
-    claims-hold (viewA []) (viewA (c .edits)) (good-a [] refl) (good-a (c .edits) edits) a steady (c .claims) pass
+    (edited-good bookA (c .edits) book-a-good edits, claims-hold (viewA []) (viewA (c .edits)) (good-a [] refl) (good-a (c .edits) edits) a steady (c .claims) pass)
 
 all-hold : (list : List Case) → settled (viewA []) ≡ true → casesGood list ≡ true → All Holds list
 all-hold [] a h = tt

@@ -15,7 +15,7 @@ use Rattle.walk.specs.steps.Net as net-walks
 use Rattle.walk.specs.steps.Net.{Back, start, via, Walk, two, more}
 use Rattle.walk.specs.steps.ViewNet.{net, isOpen, backNumber}
 use Rattle.walk.proofs.theory.Laws.{clash}
-use Rattle.walk.proofs.theory.Walks.{turn-sized}
+use Rattle.walk.proofs.theory.Walks.{turn-sized, start-link, start-node}
 use Rattle.walk.proofs.theory.Twice as twice
 use Rattle.walk.proofs.theory.Backs.{back-turn, link-back}
 use Rattle.walk.proofs.theory.Destination.{route-last}
@@ -52,13 +52,39 @@ module _ (U : View) (good : GoodView U) (r : ℕ) where
       let same : one ≡ t = cc (opened, whole .last) in
       ap (λ (l : List ℕ). t ∷ l) (turns-same w) ∙ ap (λ (n : ℕ). n ∷ turnsBack U q) (sym same) ∙ sym opened
 
+  turn-once : {t : ℕ} {q : List ℕ} {k : Key} {b : Back} → net-walks.Chosen Key (net U r) (Walk Key (net U r) t) q k b → NoneTwice (turnsBack U q)
+  turn-once c = subst NoneTwice (turns-same (c .walk)) (λ i j h l e. twice.no-turn-twice Key (net U r) (laws U good r) c i j h l e)
+
+  link-once : {l : ℕ} {q : List ℕ} {k : Key} (b : Back) → net-walks.Chosen Key (net U r) (net-walks.LinkWalk Key (net U r) l) q k b → NoneTwice (turnsBack U q)
+  link-once start c = subst (λ (x : List ℕ). NoneTwice (turnsBack U x)) (sym (start-link Key (net U r) (c .walk) refl)) (λ i j h l e. absurd (omega arith))
+  link-once (via t) c =
+      let (b, (inside, entry)) = link-back Key (net U r) (laws U good r) (turnInside U good r) (turns-inside U good r) c in
+      turn-once inside
+
+  node-once : {s : ℕ} {q : List ℕ} {k : Key} (b : Back) → net-walks.Chosen Key (net U r) (net-walks.NodeWalk Key (net U r) r s) q k b → NoneTwice (turnsBack U q)
+  node-once start c = subst (λ (x : List ℕ). NoneTwice (turnsBack U x)) (sym (start-node Key (net U r) (c .walk) refl)) (λ i j h l e. absurd (omega arith))
+  node-once {s = s} (via l) c =
+      let (b, (inside, entry)) = route-last Key (net U r) (laws U good r) (linkInside U good r) (links-inside U good r) r s c in
+      link-once b inside
+
+  turns-from-last : (links : List ℕ) → turnsBack U (reverse links) ≡ reverse (turnsOf U links)
+  turns-from-last links = sym (reverse-reverse (turnsBack U (reverse links))) ∙ ap reverse (sym (turns-reverse U (reverse links)) ∙ ap (turnsOf U) (reverse-reverse links))
+
   -- NO CHOSEN WALK USES A TURN TWICE; its turns are read from the last
   pub turn-none-twice : (t : ℕ) (links : List ℕ) → Chosen U (TurnWalk U r t) links → NoneTwice (reverse (turnsOf U links))
-  turn-none-twice t links c i j h l e =
+  turn-none-twice t links c =
       let (k, b, inside) = chosen-inward U r _ _ _ (turn-matches U good r t) links c in
-      let same : twice.turnsOf Key (net U r) (inside .walk) ≡ reverse (turnsOf U links) =
-      turns-same (inside .walk) ∙ sym (reverse-reverse (turnsBack U (reverse links))) ∙ ap reverse (sym (turns-reverse U (reverse links)) ∙ ap (turnsOf U) (reverse-reverse links)) in
-      twice.no-turn-twice Key (net U r) (laws U good r) inside i j h (subst (λ (x : List ℕ). j < length x) (sym same) l) (ap (λ (x : List ℕ). getD x i 0) same ∙ e ∙ ap (λ (x : List ℕ). getD x j 0) (sym same))
+      subst NoneTwice (turns-from-last links) (turn-once inside)
+
+  pub link-none-twice : (l : ℕ) (links : List ℕ) → Chosen U (LinkWalk U r l) links → NoneTwice (reverse (turnsOf U links))
+  link-none-twice l links c =
+      let (k, b, inside) = chosen-inward U r _ _ _ (link-matches U good r l) links c in
+      subst NoneTwice (turns-from-last links) (link-once b inside)
+
+  pub route-none-twice : (s : ℕ) (links : List ℕ) → Route U r s links → NoneTwice (reverse (turnsOf U links))
+  route-none-twice s links c =
+      let (k, b, inside) = chosen-inward U r _ _ _ (node-matches U good r s) links c in
+      subst NoneTwice (turns-from-last links) (node-once b inside)
 
   -- the back of a turn's entry leads to the chosen walk's earlier part, which has one link less
   pub back-leads : U .turns < startBack → (t p : ℕ) (links : List ℕ) → Chosen U (TurnWalk U r t) links → turnBack U links ≡ p → p < U .turns

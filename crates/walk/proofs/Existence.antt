@@ -2,7 +2,7 @@
 use Prim.Native.Nat.{ℕ, suc, _<_}
 use mathlib.Core.List.{List, reverse}
 use Rattle.walk.specs.View.{View}
-use Rattle.walk.specs.Labels.{Key, Entry, TrueTurn, TrueLink, NodeWalk, Route}
+use Rattle.walk.specs.Labels.{Key, Entry, TrueTurn, TrueLink, Reaches, by-route, by-none}
 use Rattle.walk.specs.steps.Net as net-walks
 use Rattle.walk.specs.steps.Net.{Entry as Reached, TrueTurns, TrueLinks}
 use Rattle.walk.specs.steps.Sweep.{linkEntry, routeEntry}
@@ -38,13 +38,9 @@ module _ (U : View) (good : GoodView U) (r : ℕ) where
   link-exists l m = (figures (linkInside l), true-outward U r _ _ _ (link-matches U good r l) (linkInside l) (links-inside l m))
 
   -- a destination has a route, or no permitted walk leads to it
-  pub data Reaches (s : ℕ) : Type 0 where
-    by-route : (links : List ℕ) → Route U r s links → Reaches s
-    by-none : ((links : List ℕ) → NodeWalk U r s links → ⊥) → Reaches s
-
-  pub reaches : (s : ℕ) → Reaches s
+  pub reaches : (s : ℕ) → Reaches U r s
   reaches s = by (routeEntry Key (net U r) keyLess linkInside r s) (route-true Key (net U r) (laws U good r) keyLess (tested U r) linkInside links-inside r s)
     where
-      by : (e : Reached Key) → net-walks.TrueRoute Key (net U r) r s e → Reaches s
+      by : (e : Reached Key) → net-walks.TrueRoute Key (net U r) r s e → Reaches U r s
       by _ (net-walks.chosen q c) = by-route (reverse q) (chosen-outward U r _ _ _ (node-matches U good r s) c)
       by _ (net-walks.absent n) = by-none (λ links w. let (k, b, w′) = node-matches U good r s .inward links w in n (reverse links) k b w′)

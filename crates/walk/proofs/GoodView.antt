@@ -1,4 +1,4 @@
--- What the theory needs of a view: its turns ascend, their links exist and meet, and all figures are within their limits.
+-- What the theory needs of a view: its turns ascend, and their links exist and meet.
 use Prim.Native.Nat.{ℕ, _≤_, _<_}
 use mathlib.Core.Path.{_≡_, refl, sym}
 use mathlib.Core.Bool.{Bool, true, false, not, _&&_}

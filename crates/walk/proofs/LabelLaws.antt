@@ -10,17 +10,18 @@ use lib.ListN.{length}
 use borrow.Author.Tests.{ne-eqb, eqb-true}
 use Rattle.book.proofs.Limits.{both}
 use Rattle.walk.specs.View.{View}
-use Rattle.walk.specs.Labels.{Key, LinkWalk, Entry, startBack, noEntry, chosen, absent, TrueTurn, TrueLink, Route}
+use Rattle.walk.specs.Labels.{Key, LinkWalk, Entry, startBack, noEntry, chosen, absent, TrueTurn, TrueLink, Route, keyOf, NodeWalk, lastOr}
 use Rattle.walk.specs.steps.Net as net-walks
 use Rattle.walk.specs.steps.Net.{Back, start, via, Entry as Reached, unreached, reached, Local, LocalLinks}
-use Rattle.walk.specs.steps.ViewNet.{net, key, figures, unlessNone, backed, isNone, reading}
+use Rattle.walk.specs.steps.ViewNet.{net, key, figures, unlessNone, backed, isNone, reading, backNumber}
 use Rattle.walk.proofs.theory.Laws.{clash}
 use Rattle.walk.proofs.theory.Walks.{below, two-or-more, link-sized, link-head, node-regular}
 use Rattle.walk.proofs.theory.Least.{chosen-one}
+use Rattle.walk.proofs.theory.Destination.{route-certificate}
 use Rattle.walk.proofs.theory.Certificate.{certificate, link-certificate, turn-unique, link-unique}
 use Rattle.walk.proofs.GoodView.{GoodView}
 use Rattle.walk.proofs.KeyLaws.{laws}
-use Rattle.walk.proofs.TrueEntries.{true-outward, true-inward, chosen-inward, turn-matches, link-matches, node-matches}
+use Rattle.walk.proofs.TrueEntries.{true-outward, true-inward, chosen-inward, turn-matches, link-matches, node-matches, chosen-outward}
 
 -- what stands in the buffers is read as an entry of the net, and back
 pub figures-reading : (e : Entry) → figures (reading e) ≡ e
@@ -129,3 +130,18 @@ route-one U good r s links other h g =
     let (k′, b′, c′) = chosen-inward U r _ _ _ (node-matches U good r s) other g in
     let (same, _, _) = chosen-one Key (net U r) (laws U good r) (node-regular Key (net U r) (laws U good r) r s) c c′ in
     sym (reverse-reverse links) ∙ ap reverse same ∙ reverse-reverse other
+
+-- A DESTINATION BY ONE SWEEP over true link entries: the least of those that enter it stands for its route, and there is none where it has no walk
+module _ (U : View) (good : GoodView U) (few : U .turns < startBack) (r s : ℕ) (links : ℕ → Entry) (links-true : (l : ℕ) → l < U .links → TrueLink U r l (links l)) where
+  pub data Found : Reached Key → Type 0 where
+    route-found : {k : Key} {b : Back} (walk : List ℕ) → Route U r s walk → keyOf U walk ≡ k → lastOr startBack walk ≡ backNumber b → Found (reached k b)
+    none-found : ((walk : List ℕ) → NodeWalk U r s walk → ⊥) → Found unreached
+
+  pub destination-found : (e : Reached Key) → net-walks.Least Key (net U r) (net-walks.NodeCand Key (net U r) (λ l. reading (links l)) r s) e → Found e
+  destination-found e h = by e (route-certificate Key (net U r) (laws U good r) (λ l. reading (links l)) (λ l m. link-inside U good few r l (links-true l m)) r s .0 h)
+    where
+      by : (e : Reached Key) → net-walks.TrueRoute Key (net U r) r s e → Found e
+      by _ (net-walks.chosen q c) =
+          let (w, key-same, back-same) = node-matches U good r s .outward (c .walk) in
+          route-found (reverse q) (chosen-outward U r _ _ _ (node-matches U good r s) c) key-same back-same
+      by _ (net-walks.absent n) = none-found (λ walk w. let (k, b, w′) = node-matches U good r s .inward walk w in n (reverse walk) k b w′)

@@ -53,7 +53,7 @@ module _ (book : List ℕ) (counts : Counts) (h : checkOf book ≡ Good counts) 
   extra-limit p t = by (viewOf book counts .listed p t) refl
     where
       listed : (extra : ℕ) (test : Bool) → eqb extra barred ≡ test → viewOf book counts .listed p t ≡ some extra → allowed (listedAs test extra) ≡ true → seconds (listedAs test extra) ≤ 3600
-      listed extra true e same a = clash (cc)
+      listed extra true e same a = omega arith
       listed extra false e same a =
           let (k, l, at) = listed-from (pairTable book counts) (counts .pairs) p t extra same in
           let limit = g .pair k l .seconds (λ z. eqb-false extra barred e (sym at ∙ z)) in

@@ -24,7 +24,7 @@ use Rattle.walk.proofs.GoodView.{GoodView, good-view, turn-links}
 use Rattle.walk.proofs.Growth.{step-tests}
 use Rattle.walk.proofs.TurnRuns.{same-turn-of}
 
-abbrev stepped : Bool → ℕ → Step
+abbrev pub stepped : Bool → ℕ → Step
 stepped true seconds = Seconds seconds
 stepped false seconds = Barred
 
@@ -45,7 +45,7 @@ module _ (U : View) where
   extra-comes t [] = refl
   extra-comes t (p ∷ rest) = refl
 
-  open-step : (t : ℕ) (closed : Bool) (stands : Between) → unlessClosed closed (openStep U t stands) ≡ stepped (not closed && allowed stands) (seconds stands + U .walk t + linkCost U (U .second t))
+  pub open-step : (t : ℕ) (closed : Bool) (stands : Between) → unlessClosed closed (openStep U t stands) ≡ stepped (not closed && allowed stands) (seconds stands + U .walk t + linkCost U (U .second t))
   open-step t true stands = refl
   open-step t false (Listed extra) = refl
   open-step t false Forbidden = refl

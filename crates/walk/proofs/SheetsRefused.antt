@@ -15,18 +15,18 @@ use Rattle.book.specs.FirstBad.{firstBadFrom}
 use Rattle.book.specs.Check.{tablesOf, checkOf}
 use Rattle.book.proofs.Limits.{both}
 use Rattle.walk.specs.View.{View, viewOf, walksOf, listedIn, upTo}
-use Rattle.walk.specs.Walks.{turnOf, lookUp, costOf}
+use Rattle.walk.specs.Walks.{turnOf, lookUp}
 use Rattle.walk.specs.Labels.{Key, Route, startBack}
 use Rattle.walk.specs.Counting.{sameEntry}
 use Rattle.walk.specs.Cases.{All}
-use Rattle.walk.specs.RefusedSheets.{Sheet, turnEntry, routeTo, walkCost, Row, sheets, Denied, Refused}
+use Rattle.walk.specs.RefusedSheets.{Sheet, turnEntry, linkEntry, routeTo, Row, sheets, Denied, Refused}
 use Rattle.walk.specs.steps.Net.{Entry as Reached, unreached, reached, TrueRoute}
 use Rattle.walk.specs.steps.ViewNet.{net, figures}
 use Rattle.walk.specs.steps.Rows.{roundsOf}
 use Rattle.walk.proofs.theory.Laws.{clash}
 use Rattle.walk.proofs.GoodView.{GoodView, good-view}
-use Rattle.walk.proofs.LabelLaws.{turn-one, route-one}
-use Rattle.walk.proofs.CaseTests.{settled, turnAt, routeAt, routeLinks, sameLinks, links-same, entry-same, true-turn, route-inside, route-is, no-route}
+use Rattle.walk.proofs.LabelLaws.{turn-one, link-one, route-one}
+use Rattle.walk.proofs.CaseTests.{settled, turnAt, linkAt, routeAt, routeLinks, sameLinks, links-same, entry-same, true-turn, true-link, route-inside, route-is, no-route}
 
 -- the answer is Good with these counts
 abbrev sameCounts : Counts → Counts → Bool
@@ -63,8 +63,8 @@ routeRefuted U (reached k b) links = not (sameLinks (routeLinks U (reached k b))
 
 unfoldable refuted : View → Sheet → Bool
 refuted U (turnEntry t e) = ltb t (U .turns) && not (sameEntry (figures (turnAt U t)) e)
+refuted U (linkEntry l e) = ltb l (U .links) && not (sameEntry (figures (linkAt U l)) e)
 refuted U (routeTo s links) = routeRefuted U (routeAt U s) links
-refuted U (walkCost links cost) = not (eqb (costOf U links) cost)
 
 module _ (U : View) (good : GoodView U) (few : U .turns < startBack) (h : settled U ≡ true) where
   route-denied : (s : ℕ) (e : Reached Key) (links : List ℕ) → TrueRoute Key (net U 0) 0 s e → routeRefuted U e links ≡ true → Route U 0 s links → ⊥
@@ -84,11 +84,13 @@ module _ (U : View) (good : GoodView U) (few : U .turns < startBack) (h : settle
       let yes-same : sameEntry (figures (turnAt U t)) e ≡ true = ap (sameEntry (figures (turnAt U t))) (sym same) ∙ entry-same (figures (turnAt U t)) in
       let not-same : sameEntry (figures (turnAt U t)) e ≡ false = not-true _ other in
       clash (cc)
-  denied (routeTo s links) p = route-denied s (routeAt U s) links (route-inside U good h s) p
-  denied (walkCost links cost) p = λ e.
-      let yes-same : eqb (costOf U links) cost ≡ true = eq-eqb _ _ e in
-      let not-same : eqb (costOf U links) cost ≡ false = not-true _ p in
+  denied (linkEntry l e) p = λ true-entry.
+      let (within, other) = both (ltb l (U .links)) (not (sameEntry (figures (linkAt U l)) e)) p in
+      let same = link-one U good few 0 l (figures (linkAt U l)) e (true-link U good h l (ltb-true _ _ within)) true-entry in
+      let yes-same : sameEntry (figures (linkAt U l)) e ≡ true = ap (sameEntry (figures (linkAt U l))) (sym same) ∙ entry-same (figures (linkAt U l)) in
+      let not-same : sameEntry (figures (linkAt U l)) e ≡ false = not-true _ other in
       clash (cc)
+  denied (routeTo s links) p = route-denied s (routeAt U s) links (route-inside U good h s) p
 
 abbrev viewIn : Row → View
 viewIn row = viewOf (row .book) (row .counts)
@@ -115,5 +117,5 @@ all-refused (row ∷ rest) h =
     (row-refused row here, all-refused rest later)
 
 pub sheets-refused : All Refused sheets
-unfolding checkOf tablesOf firstBadFrom numberAt withNumber markGood versionGood countsOf countsGood lineGood linkGood joinGood ascends secondsGood listedIn upTo turnOf lookUp costOf roundsOf turnAt routeAt routeLinks refuted sameEntry
+unfolding checkOf tablesOf firstBadFrom numberAt withNumber markGood versionGood countsOf countsGood lineGood linkGood joinGood ascends secondsGood listedIn upTo turnOf lookUp roundsOf turnAt linkAt routeAt routeLinks refuted sameEntry
 sheets-refused = all-refused sheets refl

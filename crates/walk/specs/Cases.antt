@@ -3,6 +3,8 @@ use Prim.Native.Nat.{ℕ, _<_}
 use mathlib.Core.Path.{_≡_}
 use mathlib.Core.List.{List, [], _∷_}
 use lib.ListN.{length, getD}
+use Rattle.book.specs.declared.Checked.the-variants.{Good}
+use Rattle.book.specs.Check.{checkOf}
 use Rattle.book.specs.BookA.{bookA, countsA}
 use Rattle.book.specs.Walk.{withWalk}
 use Rattle.walk.specs.View.{View, viewOf}
@@ -96,6 +98,6 @@ All P (a ∷ rest) = P a × All P rest
 abbrev pub viewA : List Edit → View
 viewA edits = viewOf (edited bookA edits) countsA
 
--- every claim of a case holds
+-- the edited book is good, and every claim of the case holds
 abbrev pub Holds : Case → Type 0
-Holds c = All (Says (viewA []) (viewA (c .edits))) (c .claims)
+Holds c = (checkOf (edited bookA (c .edits)) ≡ Good countsA) × All (Says (viewA []) (viewA (c .edits))) (c .claims)

@@ -8,17 +8,15 @@ use Rattle.book.specs.Number.{withNumber}
 use Rattle.book.specs.Check.{checkOf}
 use Rattle.book.specs.BookA.{bookA, countsA, written}
 use Rattle.walk.specs.View.{View, viewOf}
-use Rattle.walk.specs.Walks.{costOf}
-use Rattle.walk.specs.Labels.{Entry, TrueTurn, Route}
+use Rattle.walk.specs.Labels.{Entry, noEntry, TrueTurn, TrueLink, Route}
 use Rattle.walk.specs.Cases.{closed, edited, entry}
 
 pub data Sheet : Type 0 where
-  -- a turn's entry
+  -- a turn's entry, a link's entry
   turnEntry : ℕ → Entry → Sheet
+  linkEntry : ℕ → Entry → Sheet
   -- the route to a destination
   routeTo : ℕ → List ℕ → Sheet
-  -- the cost of a walk
-  walkCost : List ℕ → ℕ → Sheet
 
 -- a good book, and a sheet of it
 pub record Row : Type 0 where
@@ -42,6 +40,24 @@ circle =
 abbrev pub countsOfCircle : Counts
 countsOfCircle = record { nodes = 2; lines = 1; links = 2; turns = 2; pairs = 0; «carry_over» = 0 }
 
+-- two ways of equal cost and links: 0 3 4, and 1 2 4, which has the smaller link at the last difference
+abbrev pub diamond : List ℕ
+diamond =
+    76 ∷ 84 ∷ 66 ∷ written (1 ∷ 5 ∷ 1 ∷ 5 ∷ 4 ∷ 0 ∷ 0 ∷ [])
+    ++ written (0 ∷ [])
+    ++ written (0 ∷ 1 ∷ 0 ∷ 0 ∷ [])
+    ++ written (0 ∷ 2 ∷ 0 ∷ 0 ∷ [])
+    ++ written (2 ∷ 3 ∷ 0 ∷ 0 ∷ [])
+    ++ written (1 ∷ 3 ∷ 0 ∷ 0 ∷ [])
+    ++ written (3 ∷ 4 ∷ 0 ∷ 0 ∷ [])
+    ++ written (0 ∷ 3 ∷ 0 ∷ [])
+    ++ written (1 ∷ 2 ∷ 0 ∷ [])
+    ++ written (2 ∷ 4 ∷ 0 ∷ [])
+    ++ written (3 ∷ 4 ∷ 0 ∷ [])
+
+abbrev pub countsOfDiamond : Counts
+countsOfDiamond = record { nodes = 5; lines = 1; links = 5; turns = 4; pairs = 0; «carry_over» = 0 }
+
 -- book A with its pair listed at 0 seconds and a walk of 10 in turn 0
 abbrev pub listedAtZero : List ℕ
 listedAtZero = withNumber (withNumber bookA 95 0) 65 10
@@ -50,7 +66,8 @@ abbrev pub sheets : List Row
 sheets =
     -- one label per link keeps link 1 at 90 and loses the loop
     ofBook bookA countsA (routeTo 3 (4 ∷ 2 ∷ []))
-    ∷ ofBook bookA countsA (turnEntry 1 (entry 442 3 4))
+    ∷ ofBook bookA countsA (turnEntry 1 noEntry)
+    ∷ ofBook bookA countsA (linkEntry 2 (entry 442 2 4))
     -- a price of 900 in place of a ban gives a banned walk a cost
     ∷ ofBook (edited bookA (closed 3 ∷ closed 4 ∷ [])) countsA (turnEntry 1 (entry 1025 3 0))
     ∷ ofBook (edited bookA (closed 3 ∷ closed 4 ∷ [])) countsA (routeTo 3 (0 ∷ 1 ∷ 2 ∷ []))
@@ -60,13 +77,15 @@ sheets =
     -- a closing that wipes its own entry only still leads through the closed turn
     ∷ ofBook (edited bookA (closed 3 ∷ [])) countsA (turnEntry 1 (entry 342 5 3))
     -- the carry-over on top of a listed extra
-    ∷ ofBook listedAtZero countsA (walkCost (0 ∷ 1 ∷ 2 ∷ []) 235)
+    ∷ ofBook listedAtZero countsA (turnEntry 1 (entry 235 3 0))
+    -- ties settled by the first link, not by the last difference
+    ∷ ofBook diamond countsOfDiamond (routeTo 4 (0 ∷ 3 ∷ 4 ∷ []))
     ∷ []
 
 abbrev pub Denied : View → Sheet → Type 0
 Denied U (turnEntry t e) = TrueTurn U 0 t e → ⊥
+Denied U (linkEntry l e) = TrueLink U 0 l e → ⊥
 Denied U (routeTo s links) = Route U 0 s links → ⊥
-Denied U (walkCost links cost) = costOf U links ≡ cost → ⊥
 
 -- the book is good and the sheet is not its
 abbrev pub Refused : Row → Type 0

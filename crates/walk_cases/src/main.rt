@@ -118,6 +118,7 @@ fn extras() {
 fn refused() {
     let none = [0u8; 0];
     let links = [0u16];
+    let none_such = [5u16];
     run_a(b"an origin that is no node", 4, &links, b"10 0");
     run(b"an empty book", &none, 0, &links, b"1 0");
     run_written(b"a book that is too short", 7, 256, &links, b"5 0");
@@ -125,7 +126,7 @@ fn refused() {
         b"a bad turn and a number that is no link",
         83,
         3601,
-        &links,
+        &none_such,
         b"8 3",
     );
 }
@@ -155,7 +156,11 @@ fn run_loop(name: &[u8], length: usize, expected: &[u8]) {
 fn long() {
     run_loop(b"4097 links", 4097, b"permitted at 239666");
     run_loop(b"65535 links", 65535, b"permitted at 3833789");
-    run_loop(b"65536 links", 65536, b"too long");
+    run_loop(
+        b"65536 links, which this layer does not take",
+        65536,
+        b"too long",
+    );
 }
 
 fn main() {

@@ -39,7 +39,7 @@ pub record Passes (book : List ℕ) (counts : Counts) : Type 0 where
   pub tables : GoodTables (lineTable book counts) (linkTable book counts) (turnTable book counts) (pairTable book counts) counts
 
 -- where an answer behind a test is Good, the test held
-passed : (t : Bool) (found : Refusal) (rest : Checked) {counts : Counts} → unless t found rest ≡ Good counts → (t ≡ true) × (rest ≡ Good counts)
+pub passed : (t : Bool) (found : Refusal) (rest : Checked) {counts : Counts} → unless t found rest ≡ Good counts → (t ≡ true) × (rest ≡ Good counts)
 passed true found rest h = (refl, h)
 passed false found rest h = (cc, cc)
 

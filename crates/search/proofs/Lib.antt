@@ -1,0 +1,14 @@
+pub mod TableLaws
+pub mod FilledTables
+pub mod TurnOrder
+pub mod Gathering
+pub mod FirstTurn
+pub mod Offers
+pub mod Spreading
+pub mod MarkLaws
+pub mod Underway
+pub mod EndedTurns
+pub mod LinkEnds
+pub mod Labelling
+pub mod Tested
+pub mod Determined

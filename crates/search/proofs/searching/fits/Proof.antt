@@ -1,0 +1,12 @@
+-- The test is written as the definition.
+use mathlib.Core.Path.{refl}
+use Rattle.search.specs.Search.{fits}
+use Rattle.search.proofs.searching.fits.Statement.{statement}
+use Rattle.search.proofs.searching.fits.Tie as tie
+
+returns : tie.Need-returns
+unfolding fits
+returns c = refl
+
+pub fits-spec : {M : Type 1} → statement M
+fits-spec = tie.close (tie.spec returns)

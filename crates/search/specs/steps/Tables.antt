@@ -1,0 +1,41 @@
+-- A table of labels as three lists, and the offer of a label to one entry.
+use Prim.Native.Nat.{ℕ}
+use mathlib.Core.Path.{_≡_}
+use mathlib.Core.List.{List}
+use mathlib.Core.Bool.{Bool, true, false, _&&_, _||_}
+use lib.Dec.{ltb, eqb}
+use lib.ListN.{length, set}
+use Rattle.walk.specs.View.{upTo}
+use Rattle.walk.specs.Labels.{Entry, Table, entryAt}
+use Rattle.search.specs.declared.Label.{Label}
+
+abbrev pub three : List ℕ → List ℕ → List ℕ → Table
+three cost links back = record { cost = cost; links = links; back = back }
+
+abbrev pub asEntry : Label → Entry
+asEntry label = record { cost = label .cost; links = label .links; back = label .back }
+
+abbrev pub placed : Table → ℕ → Entry → Table
+placed table k e = record { cost = set (table .cost) k (e .cost); links = set (table .links) k (e .links); back = set (table .back) k (e .back) }
+
+-- by cost, then links, then back
+unfoldable pub goesAhead : Entry → Entry → Bool
+goesAhead e f = ltb (e .cost) (f .cost) || eqb (e .cost) (f .cost) && (ltb (e .links) (f .links) || eqb (e .links) (f .links) && ltb (e .back) (f .back))
+
+abbrev pub placedIf : Bool → Table → ℕ → Entry → Table
+placedIf true table k e = placed table k e
+placedIf false table k e = table
+
+-- the label is taken where it goes ahead of the one that stands there
+unfoldable pub offered : Table → ℕ → Entry → Table
+offered table k e = placedIf (goesAhead e (entryAt table k)) table k e
+
+-- the table of f at 0 up to n
+abbrev pub tableUpTo : ℕ → (ℕ → Entry) → Table
+tableUpTo n f = record { cost = upTo n (λ k. f k .cost); links = upTo n (λ k. f k .links); back = upTo n (λ k. f k .back) }
+
+-- three lists of one length
+pub record Sized (count : ℕ) (table : Table) : Type 0 where
+  pub cost : length (table .cost) ≡ count
+  pub links : length (table .links) ≡ count
+  pub back : length (table .back) ≡ count

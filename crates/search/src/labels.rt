@@ -1,0 +1,48 @@
+// One entry of a table of labels: what it holds, and the offer of another label.
+use super::Label;
+ghost use mathlib.Core.Path.{_≡_};
+ghost use Prim.Native.Nat.{_<_};
+ghost use lib.ListN.{length};
+ghost use Rattle.walk.specs.Labels.{entryAt};
+ghost use Rattle.search.specs.steps.Tables.{three, asEntry, placed, goesAhead, offered};
+
+pub fn label_at(cost: &[u32], links: &[u16], back: &[u16], at: usize) -> Label
+    requires { ⌜ (at < length (now cost)) × (at < length (now links)) × (at < length (now back)) ⌝ }
+    ensures { λ r. ⌜ asEntry r ≡ entryAt (three (now (cost .entry)) (now (links .entry)) (now (back .entry))) at ⌝ }
+{
+    Label {
+        cost: cost[at],
+        links: links[at],
+        back: back[at],
+    }
+}
+
+pub fn place(cost: &mut [u32], links: &mut [u16], back: &mut [u16], at: usize, label: Label)
+    requires { ⌜ (at < length (now cost)) × (at < length (now links)) × (at < length (now back)) ⌝ }
+    ensures { λ _. ⌜ three (now (cost .exit)) (now (links .exit)) (now (back .exit)) ≡ placed (three (now (cost .entry)) (now (links .entry)) (now (back .entry))) at (asEntry label) ⌝ }
+{
+    cost[at] = label.cost;
+    links[at] = label.links;
+    back[at] = label.back;
+}
+
+// By cost, then links, then back.
+fn goes_ahead(one: Label, other: Label) -> bool
+    ensures { λ r. ⌜ r ≡ goesAhead (asEntry one) (asEntry other) ⌝ }
+{
+    (one.cost < other.cost)
+        | ((one.cost == other.cost)
+            & ((one.links < other.links) | ((one.links == other.links) & (one.back < other.back))))
+}
+
+// The entry takes the label where it goes ahead of its own.
+pub fn offer(cost: &mut [u32], links: &mut [u16], back: &mut [u16], at: usize, label: Label)
+    requires { ⌜ (at < length (now cost)) × (at < length (now links)) × (at < length (now back)) ⌝ }
+    ensures { λ _. ⌜ three (now (cost .exit)) (now (links .exit)) (now (back .exit)) ≡ offered (three (now (cost .entry)) (now (links .entry)) (now (back .entry))) at (asEntry label) ⌝ }
+{
+    let held = label_at(cost, links, back, at);
+    if goes_ahead(label, held) {
+        place(cost, links, back, at, label);
+        return;
+    }
+}

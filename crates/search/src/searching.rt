@@ -1,0 +1,183 @@
+// Search: the tests in order, then every turn's entry and every link's.
+use super::Searched;
+use super::ends::end_turns;
+use super::figures::MOST_TURNS;
+use super::settling::label_turns;
+use super::starts::start_links;
+use book::Checked;
+use book::Counts;
+use book::NodeNumber;
+use book::Refusal;
+use walk::check;
+use walk::read_walks;
+ghost use mathlib.Core.Path.{_≡_};
+ghost use Rattle.book.specs.declared.Checked.the-variants.{Good};
+ghost use Rattle.book.specs.Check.{checkOf};
+ghost use Rattle.walk.specs.View.{viewOf};
+ghost use Rattle.walk.specs.Labels.{TrueLabels};
+ghost use Rattle.search.specs.Search.{fits, searchTests, searchGivenBack, Search};
+ghost use Rattle.search.specs.steps.Tables.{three, Sized};
+
+fn fits(count: usize, cost: &[u32], links: &[u16], back: &[u16]) -> bool
+    ensures { λ r. ⌜ r ≡ fits count (three (now (cost .entry)) (now (links .entry)) (now (back .entry))) ⌝ }
+{
+    (cost.len() == count) & ((links.len() == count) & (back.len() == count))
+}
+
+// Tests 10 and 12.
+fn tests_in(
+    counts: Counts,
+    origin: NodeNumber,
+    turn_cost: &[u32],
+    turn_links: &[u16],
+    turn_back: &[u16],
+    link_cost: &[u32],
+    link_links: &[u16],
+    link_back: &[u16],
+) -> Checked
+    ensures { λ r. ⌜ r ≡ searchTests (Good counts) (origin .0) (three (now («turn_cost» .entry)) (now («turn_links» .entry)) (now («turn_back» .entry))) (three (now («link_cost» .entry)) (now («link_links» .entry)) (now («link_back» .entry))) ⌝ }
+{
+    if counts.nodes <= origin.0 as usize {
+        return Checked::Refused(Refusal {
+            number: 10,
+            place: 0,
+        });
+    }
+    if !fits(counts.turns, turn_cost, turn_links, turn_back) {
+        return Checked::Refused(Refusal {
+            number: 12,
+            place: 0,
+        });
+    }
+    if !fits(counts.links, link_cost, link_links, link_back) {
+        return Checked::Refused(Refusal {
+            number: 12,
+            place: 0,
+        });
+    }
+    Checked::Good(counts)
+}
+
+fn tests(
+    book: &[u8],
+    origin: NodeNumber,
+    turn_cost: &[u32],
+    turn_links: &[u16],
+    turn_back: &[u16],
+    link_cost: &[u32],
+    link_links: &[u16],
+    link_back: &[u16],
+) -> Checked
+    ensures { λ r. ⌜ r ≡ searchTests (checkOf (now (book .entry))) (origin .0) (three (now («turn_cost» .entry)) (now («turn_links» .entry)) (now («turn_back» .entry))) (three (now («link_cost» .entry)) (now («link_links» .entry)) (now («link_back» .entry))) ⌝ }
+{
+    match check(book) {
+        Checked::Refused(found) => Checked::Refused(found),
+        Checked::Good(counts) => {
+            tests_in(
+                counts,
+                origin,
+                turn_cost,
+                turn_links,
+                turn_back,
+                link_cost,
+                link_links,
+                link_back,
+            )
+        }
+    }
+}
+
+// Every entry, from this origin, whatever the buffers held.
+fn label_all(
+    book: &[u8],
+    counts: Counts,
+    origin: NodeNumber,
+    turn_cost: &mut [u32],
+    turn_links: &mut [u16],
+    turn_back: &mut [u16],
+    link_cost: &mut [u32],
+    link_links: &mut [u16],
+    link_back: &mut [u16],
+)
+    requires { ⌜ checkOf (now book) ≡ Good counts ⌝ }
+    requires { ⌜ (Sized (counts .turns) (three (now «turn_cost») (now «turn_links») (now «turn_back»))) × (Sized (counts .links) (three (now «link_cost») (now «link_links») (now «link_back»))) ⌝ }
+    ensures { λ _. ⌜ TrueLabels (viewOf (now (book .entry)) counts) (origin .0) (three (now («turn_cost» .exit)) (now («turn_links» .exit)) (now («turn_back» .exit))) (three (now («link_cost» .exit)) (now («link_links» .exit)) (now («link_back» .exit))) ⌝ }
+{
+    let turns = counts.turns;
+    let mut walks = [0u16; MOST_TURNS];
+    read_walks(book, counts, &mut walks[..turns]);
+    let mut settled = [0u8; MOST_TURNS];
+    label_turns(
+        book,
+        counts,
+        &walks[..turns],
+        origin,
+        &mut settled[..turns],
+        turn_cost,
+        turn_links,
+        turn_back,
+    );
+    start_links(book, counts, origin, link_cost, link_links, link_back);
+    end_turns(
+        book,
+        counts,
+        turn_cost,
+        turn_links,
+        link_cost,
+        link_links,
+        link_back,
+    );
+}
+
+pub fn search(
+    book: &[u8],
+    origin: NodeNumber,
+    turn_cost: &mut [u32],
+    turn_links: &mut [u16],
+    turn_back: &mut [u16],
+    link_cost: &mut [u32],
+    link_links: &mut [u16],
+    link_back: &mut [u16],
+) -> Searched
+    ensures { λ r. ⌜ Search (now (book .entry)) (origin .0) (three (now («turn_cost» .entry)) (now («turn_links» .entry)) (now («turn_back» .entry))) (three (now («link_cost» .entry)) (now («link_links» .entry)) (now («link_back» .entry))) r (three (now («turn_cost» .exit)) (now («turn_links» .exit)) (now («turn_back» .exit))) (three (now («link_cost» .exit)) (now («link_links» .exit)) (now («link_back» .exit))) ⌝ }
+{
+    match tests(
+        book,
+        origin,
+        turn_cost,
+        turn_links,
+        turn_back,
+        link_cost,
+        link_links,
+        link_back,
+    ) {
+        Checked::Refused(found) => Searched::Refused(found),
+        Checked::Good(counts) => {
+            label_all(
+                book,
+                counts,
+                origin,
+                turn_cost,
+                turn_links,
+                turn_back,
+                link_cost,
+                link_links,
+                link_back,
+            );
+            Searched::Done
+        }
+    }
+}
+
+// Number and place of an answer, 0 and 0 where it is done.
+pub fn given_back(answer: Searched) -> Refusal
+    ensures { λ r. ⌜ r ≡ searchGivenBack answer ⌝ }
+{
+    match answer {
+        Searched::Done => Refusal {
+            number: 0,
+            place: 0,
+        },
+        Searched::Refused(found) => found,
+    }
+}

@@ -1,4 +1,4 @@
--- The loop of label setting over a checked book: what it knows between two picks, whichever origin its starts are of.
+-- Label setting over a checked book: what the loop knows between two picks, whichever origin its starts are of, and that all labels are true at the end.
 use Prim.Native.Nat.{ℕ, _-_, _≤_, _<_}
 use mathlib.Core.Path.{_≡_, sym, ap, _∙_, subst}
 use mathlib.Core.List.{List}

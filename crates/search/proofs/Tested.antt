@@ -27,10 +27,9 @@ pub tests-passed : (checked : Checked) (r : ℕ) (turns links : Table) (counts :
 unfolding searchTests
 tests-passed (Refused found) r turns links counts h = clash (cc)
 tests-passed (Good own) r turns links counts h =
-    let last = unless (fits (own .links) links) (refusal 12 0) (Good own) in
-    let (o, rest) = passed (ltb r (own .nodes)) (refusal 10 0) (unless (fits (own .turns) turns) (refusal 12 0) last) h in
-    let (t, rest-after) = passed (fits (own .turns) turns) (refusal 12 0) last rest in
-    let (l, same) = passed (fits (own .links) links) (refusal 12 0) (Good own) rest-after in
+    let (o, rest) = passed (ltb r (own .nodes)) (refusal 10 0) (unless (fits (own .turns) turns && fits (own .links) links) (refusal 12 0) (Good own)) h in
+    let (f, same) = passed (fits (own .turns) turns && fits (own .links) links) (refusal 12 0) (Good own) rest in
+    let (t, l) = both (fits (own .turns) turns) (fits (own .links) links) f in
     (same, (rw (counts-same same) at (fits-sized (own .turns) turns t), rw (counts-same same) at (fits-sized (own .links) links l)))
   where
     counts-same : Good own ≡ Good counts → own ≡ counts

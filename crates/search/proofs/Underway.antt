@@ -101,10 +101,6 @@ back-via : (e : Entry) → e .back < startBack → backOf e ≡ via (e .back)
 unfolding backOf
 back-via e h = rw (ne-eqb (e .back) startBack (λ z. omega arith))
 
-back-start : (e : Entry) → e .back ≡ startBack → backOf e ≡ start
-unfolding backOf
-back-start e h = rw (eq-eqb (e .back) startBack h)
-
 suc-test : (a b : ℕ) → ltb (suc a) (suc b) ≡ ltb a b
 suc-test a b = same-test (ltb (suc a) (suc b)) (ltb a b) (λ h. lt-ltb a b (omega (arith, ltb-true (suc a) (suc b) h))) (λ h. lt-ltb (suc a) (suc b) (omega (arith, ltb-true a b h)))
 

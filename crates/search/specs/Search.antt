@@ -1,4 +1,4 @@
--- Document 01, "Search" and "Refusals": tests 1 to 10 and 12 in order, then every entry of both tables is the true one.
+-- Document 01, "What can be asked" and "Numbers given back", Search: tests 1 to 10 and 12 in order, then every entry of both tables is the true one.
 use Prim.Native.Nat.{ℕ}
 use mathlib.Core.Path.{_≡_}
 use mathlib.Core.List.{List}
@@ -24,9 +24,8 @@ unfoldable pub searchTests : Checked → ℕ → Table → Table → Checked
 searchTests (Refused found) r turns links = Refused found
 searchTests (Good counts) r turns links =
     unless (ltb r (counts .nodes)) (refusal 10 0)
-    (unless (fits (counts .turns) turns) (refusal 12 0)
-    (unless (fits (counts .links) links) (refusal 12 0)
-    (Good counts)))
+    (unless (fits (counts .turns) turns && fits (counts .links) links) (refusal 12 0)
+    (Good counts))
 
 -- number and place of each case of the answer: 0 and 0 where it is done
 abbrev pub searchGivenBack : Searched → Refusal

@@ -8,7 +8,7 @@ pub const CLOSED: u16 = 65535;
 pub const UNREACHED: u32 = 4294967295;
 
 pub const NO_WALK: Label = Label {
-    cost: 4294967295,
+    cost: UNREACHED,
     links: 0,
     back: 65535,
 };

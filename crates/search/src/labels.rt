@@ -6,7 +6,7 @@ ghost use lib.ListN.{length};
 ghost use Rattle.walk.specs.Labels.{entryAt};
 ghost use Rattle.search.specs.steps.Tables.{three, asEntry, placed, goesAhead, offered};
 
-pub fn label_at(cost: &[u32], links: &[u16], back: &[u16], at: usize) -> Label
+fn label_at(cost: &[u32], links: &[u16], back: &[u16], at: usize) -> Label
     requires { ⌜ (at < length (now cost)) × (at < length (now links)) × (at < length (now back)) ⌝ }
     ensures { λ r. ⌜ asEntry r ≡ entryAt (three (now (cost .entry)) (now (links .entry)) (now (back .entry))) at ⌝ }
 {
@@ -43,6 +43,5 @@ pub fn offer(cost: &mut [u32], links: &mut [u16], back: &mut [u16], at: usize, l
     let held = label_at(cost, links, back, at);
     if goes_ahead(label, held) {
         place(cost, links, back, at, label);
-        return;
     }
 }

@@ -43,13 +43,8 @@ fn tests_in(
             place: 0,
         });
     }
-    if !fits(counts.turns, turn_cost, turn_links, turn_back) {
-        return Checked::Refused(Refusal {
-            number: 12,
-            place: 0,
-        });
-    }
-    if !fits(counts.links, link_cost, link_links, link_back) {
+    if !(fits(counts.turns, turn_cost, turn_links, turn_back)
+        & fits(counts.links, link_cost, link_links, link_back)) {
         return Checked::Refused(Refusal {
             number: 12,
             place: 0,
@@ -129,6 +124,7 @@ fn label_all(
     );
 }
 
+// Document 01, "What can be asked": all entries are written, or nothing lent changes.
 pub fn search(
     book: &[u8],
     origin: NodeNumber,

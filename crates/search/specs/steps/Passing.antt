@@ -6,7 +6,6 @@ use Rattle.walk.specs.declared.Step.the-variants.{Barred, Seconds}
 use Rattle.walk.specs.View.{View}
 use Rattle.walk.specs.Walks.{between, seconds, linkCost}
 use Rattle.walk.specs.Labels.{Entry, Table}
-use Rattle.walk.specs.steps.Pairs.{stepTo}
 use Rattle.walk.specs.steps.ViewNet.{mayFollow}
 use Rattle.search.specs.steps.Tables.{goesAhead, offered}
 

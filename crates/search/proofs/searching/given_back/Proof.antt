@@ -1,4 +1,4 @@
--- Case by case.
+-- Each case of the answer has its own line in the definition.
 use borrow.Author.Needs.{needs}
 use Rattle.search.proofs.searching.given_back.Statement.{statement}
 use Rattle.search.proofs.searching.given_back.Tie as tie

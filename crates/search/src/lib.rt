@@ -1,5 +1,6 @@
 // Search: the labels of every turn and every link from one origin.
 use book::Refusal;
+use book::TurnNumber;
 
 mod ends;
 mod figures;
@@ -22,7 +23,7 @@ pub struct Label {
 
 // The turn to settle next.
 pub enum Picked {
-    Turn(u16),
+    Turn(TurnNumber),
     Nothing,
 }
 

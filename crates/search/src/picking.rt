@@ -2,6 +2,7 @@
 use super::Picked;
 use super::figures::MOST_TURNS;
 use super::figures::UNREACHED;
+use book::TurnNumber;
 ghost use mathlib.Core.Path.{_≡_};
 ghost use Prim.Native.Nat.{_<_, _≤_};
 ghost use lib.ListN.{length};
@@ -87,5 +88,5 @@ pub fn pick(cost: &[u32], links: &[u16], settled: &[u8]) -> Picked
     if count == 0 {
         return Picked::Nothing;
     }
-    Picked::Turn(least_of(cost, links, &candidates[..count]))
+    Picked::Turn(TurnNumber(least_of(cost, links, &candidates[..count])))
 }

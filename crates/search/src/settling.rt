@@ -23,7 +23,7 @@ fn settle(
     book: &[u8],
     counts: Counts,
     walks: &[u16],
-    turn: u16,
+    turn: TurnNumber,
     settled: &mut [u8],
     cost: &mut [u32],
     links: &mut [u16],
@@ -31,11 +31,11 @@ fn settle(
 )
     requires { ⌜ (checkOf (now book) ≡ Good counts) × (length (now walks) ≡ counts .turns) ⌝ }
     requires { ⌜ Sized (counts .turns) (three (now cost) (now links) (now back)) ⌝ }
-    requires { ⌜ (length (now settled) ≡ counts .turns) × (turn < counts .turns) × (getD (now cost) turn 0 ≤ 4000000000) × (getD (now links) turn 0 < 65535) ⌝ }
-    ensures { λ _. ⌜ now (settled .exit) ≡ set (now (settled .entry)) turn 1 ⌝ }
-    ensures { λ _. ⌜ three (now (cost .exit)) (now (links .exit)) (now (back .exit)) ≡ tableUpTo (counts .turns) (λ t. passedTo (viewWith (now (book .entry)) counts (now (walks .entry))) turn (getD (now (cost .entry)) turn 0) (getD (now (links .entry)) turn 0) (entryAt (three (now (cost .entry)) (now (links .entry)) (now (back .entry))) t) t) ⌝ }
+    requires { ⌜ (length (now settled) ≡ counts .turns) × (turn .0 < counts .turns) × (getD (now cost) (turn .0) 0 ≤ 4000000000) × (getD (now links) (turn .0) 0 < 65535) ⌝ }
+    ensures { λ _. ⌜ now (settled .exit) ≡ set (now (settled .entry)) (turn .0) 1 ⌝ }
+    ensures { λ _. ⌜ three (now (cost .exit)) (now (links .exit)) (now (back .exit)) ≡ tableUpTo (counts .turns) (λ t. passedTo (viewWith (now (book .entry)) counts (now (walks .entry))) (turn .0) (getD (now (cost .entry)) (turn .0) 0) (getD (now (links .entry)) (turn .0) 0) (entryAt (three (now (cost .entry)) (now (links .entry)) (now (back .entry))) t) t) ⌝ }
 {
-    let at = turn as usize;
+    let at = turn.0 as usize;
     settled[at] = SETTLED;
     let cost_here = cost[at];
     let links_here = links[at];
@@ -43,7 +43,7 @@ fn settle(
         book,
         counts,
         walks,
-        TurnNumber(turn),
+        turn,
         cost_here,
         links_here,
         cost,

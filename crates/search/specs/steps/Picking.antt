@@ -27,5 +27,5 @@ pub record LeastOf (cost links settled : List ℕ) (t : ℕ) : Type 0 where
   pub first : (v : ℕ) → v < t → isCandidate cost settled v ≡ true → Less (keyAt cost links t) (keyAt cost links v)
 
 abbrev pub Picks : List ℕ → List ℕ → List ℕ → Picked → Type 0
-Picks cost links settled (Turn t) = LeastOf cost links settled t
+Picks cost links settled (Turn turn) = LeastOf cost links settled (turn .0)
 Picks cost links settled Nothing = (v : ℕ) → v < length cost → isCandidate cost settled v ≡ false

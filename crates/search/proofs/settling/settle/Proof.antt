@@ -3,6 +3,9 @@ use borrow.Author.Needs.{needs}
 use Rattle.search.proofs.settling.settle.Statement.{statement}
 use Rattle.search.proofs.settling.settle.Tie as tie
 
+cast-at : tie.Need-cast-at
+cast-at c = search needs
+
 slice-write-settled : tie.Need-slice-write-settled
 slice-write-settled c = search needs
 
@@ -20,8 +23,8 @@ slice-read-links-here c = search needs
 
 spread-requires : tie.Need-spread-requires
 spread-requires c κs =
-    let s = c .before .before .before .before .before .before .before .before .before .before .before in
-    (s .pre .0, ((s .pre .1 .1 .1, s .pre .1 .1 .2, s .pre .1 .1 .3), s .pre .1 .0))
+    let start = c .before .before .before .before .before .before .before .before .before .before .before .before in
+    (start .pre .0, ((start .pre .1 .1 .1, start .pre .1 .1 .2, start .pre .1 .1 .3), start .pre .1 .0))
 
 same-length : tie.Need-same-length
 same-length c = search needs
@@ -42,6 +45,7 @@ pub settle-spec : {M : Type 1} → statement M
 settle-spec =
     tie.close
     (tie.spec
+    cast-at
     slice-write-settled
     mul-cost-here
     slice-read-cost-here

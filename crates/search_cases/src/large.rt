@@ -1,0 +1,113 @@
+// Two large books: one long walk, and the most successive turns.
+use cases::put;
+use cases::put_header;
+use cases::put_link;
+use cases::put_three;
+
+// Along 1,024 nodes, back to node 1 and on again, so that nothing else leaves node 0.
+fn node_at(link: u16) -> u16 {
+    if link <= 1023 {
+        return link;
+    }
+    if link <= 2045 {
+        return 2046 - link;
+    }
+    if link <= 2048 {
+        return link - 2044;
+    }
+    0
+}
+
+fn put_chain_links(bytes: &mut [u8], at: usize) -> usize {
+    let mut at = at;
+    let mut link = 0u16;
+    'links: while link < 2048 {
+        at = put_link(bytes, at, node_at(link), node_at(link + 1), 0, 3);
+        link += 1;
+    }
+    at
+}
+
+fn put_chain_turns(bytes: &mut [u8], at: usize) -> usize {
+    let mut at = at;
+    let mut turn = 0u16;
+    'turns: while turn < 2047 {
+        at = put_three(bytes, at, turn, turn + 1, 2);
+        turn += 1;
+    }
+    at
+}
+
+// Every other pair is listed.
+fn put_chain_pairs(bytes: &mut [u8], at: usize) -> usize {
+    let mut at = at;
+    let mut pair = 0u16;
+    'pairs: while pair < 1023 {
+        at = put_three(bytes, at, 2 * pair, 2 * pair + 1, 9);
+        pair += 1;
+    }
+    at
+}
+
+pub const CHAIN_BYTES: usize = 34823;
+
+pub fn put_chain(bytes: &mut [u8]) {
+    let at = put_header(bytes, 1024, 1, 2048, 2047, 1023, 5);
+    let at = put(bytes, at, 1);
+    let at = put_chain_links(bytes, at);
+    let at = put_chain_turns(bytes, at);
+    put_chain_pairs(bytes, at);
+}
+
+// One link across, and 2,047 back, each a second shorter than the one before.
+fn put_fan_links(bytes: &mut [u8], at: usize) -> usize {
+    let mut at = put_link(bytes, at, 0, 1, 0, 20);
+    let mut link = 1u16;
+    'links: while link < 2048 {
+        at = put_link(bytes, at, 1, 0, 0, 3000 - link);
+        link += 1;
+    }
+    at
+}
+
+fn put_fan_turns_back(bytes: &mut [u8], at: usize) -> usize {
+    let mut at = at;
+    let mut link = 1u16;
+    'turns: while link < 2048 {
+        at = put_three(bytes, at, 0, link, 4);
+        link += 1;
+    }
+    at
+}
+
+fn put_fan_turns_across(bytes: &mut [u8], at: usize) -> usize {
+    let mut at = at;
+    let mut link = 1u16;
+    'turns: while link < 2048 {
+        at = put_three(bytes, at, link, 0, 4);
+        link += 1;
+    }
+    at
+}
+
+// Who came by one of the links back may not leave by it again.
+fn put_fan_pairs(bytes: &mut [u8], at: usize) -> usize {
+    let mut at = put_three(bytes, at, 0, 2047, 50);
+    let mut pair = 0u16;
+    'pairs: while pair < 2047 {
+        at = put_three(bytes, at, 2047 + pair, pair, 65535);
+        pair += 1;
+    }
+    at
+}
+
+pub const FAN_BYTES: usize = 53255;
+
+pub fn put_fan(bytes: &mut [u8]) {
+    let at = put_header(bytes, 2, 1, 2048, 4094, 2048, 6);
+    let at = put(bytes, at, 3);
+    let at = put_fan_links(bytes, at);
+    let at = put_fan_turns_back(bytes, at);
+    let at = put_fan_turns_across(bytes, at);
+    put_fan_pairs(bytes, at);
+}

@@ -2,11 +2,11 @@
 use Prim.Native.Nat.{ℕ, _+_, _≤_, _<_}
 use mathlib.Core.Path.{_≡_, refl, ap}
 use native.Mathlib.Omega.{arith}
-use lib.ListN.{length-set}
 use Rattle.walk.specs.View.{upTo}
 use Rattle.walk.specs.Labels.{Entry, Table}
 use Rattle.walk.proofs.Filling.{Filled, one-filled, all-filled}
 use Rattle.search.specs.steps.Tables.{placed, tableUpTo, Sized}
+use Rattle.search.proofs.TableLaws.{placed-sized}
 
 module _ (count : ℕ) (f : ℕ → Entry) where
   -- of its entries, as many as count says, the first n are filled
@@ -26,7 +26,7 @@ module _ (count : ℕ) (f : ℕ → Entry) where
       let sized = filled .sized in
       rw stored
       (record {
-        sized = record { cost = simp length-set (sized .cost); links = simp length-set (sized .links); back = simp length-set (sized .back) };
+        sized = placed-sized sized n e;
         within = omega arith;
         cost = one-filled _ _ _ (omega arith) (ap (λ (x : Entry). x .cost) same) (filled .cost);
         links = one-filled _ _ _ (omega arith) (ap (λ (x : Entry). x .links) same) (filled .links);

@@ -8,9 +8,10 @@ use native.Mathlib.Omega.{arith}
 use native.Mathlib.Numerals.{add-one}
 use lib.ListN.{length, getD, take, drop, take-append-drop}
 use lib.Seq.{take-suc}
+use Rattle.walk.specs.Labels.{Entry}
 use Rattle.search.specs.steps.Picking.{LeastOf}
-use Rattle.search.specs.steps.Candidates.{comesBefore, chosenIf, earlier, AllBelow, FirstAmong, Gathered}
-use Rattle.search.proofs.TurnOrder.{never-sooner, sooner-still, test-holds, test-fails, later}
+use Rattle.search.specs.steps.Candidates.{turnLabel, comesBefore, chosenIf, earlier, AllBelow, FirstAmong, Gathered}
+use Rattle.search.proofs.LabelOrder.{never-sooner, sooner-still, test-holds, test-fails, later}
 use Rattle.search.proofs.Gathering.{refuted, one-of-more, on-list, listed}
 
 pub at-below : (bound : ℕ) (list : List ℕ) (k : ℕ) → k < length list → AllBelow bound list → getD list k 0 < bound
@@ -25,12 +26,15 @@ pub taken-below : (bound : ℕ) (list : List ℕ) (k v : ℕ) → List·Memᴰ v
 taken-below bound list k v m below = below v (rw take-append-drop at (Memᴰ·append-left (drop k list) m))
 
 module _ (cost links : List ℕ) where
+  abbrev label : ℕ → Entry
+  label turn = turnLabel cost links turn
+
   not-itself : (turn : ℕ) → comesBefore cost links turn turn ≡ false
-  not-itself turn = refuted _ (λ e. never-sooner cost links turn (test-holds cost links turn turn e))
+  not-itself turn = refuted _ (λ e. never-sooner (label turn) (test-holds (label turn) (label turn) e))
 
   -- what does not come before a turn does not come before one that is sooner
   not-before-sooner : (v one other : ℕ) → comesBefore cost links one other ≡ true → comesBefore cost links v other ≡ false → comesBefore cost links v one ≡ false
-  not-before-sooner v one other h e = refuted _ (λ f. test-fails cost links v other e (sooner-still cost links v one other (test-holds cost links v one f) (test-holds cost links one other h)))
+  not-before-sooner v one other h e = refuted _ (λ f. test-fails (label v) (label other) e (sooner-still (label v) (label one) (label other) (test-holds (label v) (label one) f) (test-holds (label one) (label other) h)))
 
   first-alone : (turn : ℕ) → FirstAmong cost links (turn ∷ []) turn
   first-alone turn = record { member = List·Memᴰ·head refl; first = λ v m. ⊎-elim (λ m. absurd (List·Memᴰ·not-nil m)) (λ same. rw same (not-itself turn)) (one-of-more [] m) }
@@ -63,6 +67,6 @@ module _ (cost links : List ℕ) where
       record {
         within = found .below;
         candidate = found .candidate;
-        least = λ v h e l. test-fails cost links v turn (picked .first v (listed cost settled list count all v (record { below = h; candidate = e }))) (inl l);
-        first = λ v h e. later cost links v turn (picked .first v (listed cost settled list count all v (record { below = (let b = found .below in omega arith); candidate = e }))) h;
+        least = λ v h e l. test-fails (label v) (label turn) (picked .first v (listed cost settled list count all v (record { below = h; candidate = e }))) (inl l);
+        first = λ v h e. later (label v) (label turn) (picked .first v (listed cost settled list count all v (record { below = (let b = found .below in omega arith); candidate = e }))) h;
       }

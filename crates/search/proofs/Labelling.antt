@@ -1,5 +1,5 @@
 -- Label setting over a checked book: what the loop knows between two picks, whichever origin its starts are of, and that all labels are true at the end.
-use Prim.Native.Nat.{ℕ, _-_, _≤_, _<_}
+use Prim.Native.Nat.{ℕ, _-_, _<_}
 use mathlib.Core.Path.{_≡_, sym, ap, _∙_, subst}
 use mathlib.Core.List.{List}
 use mathlib.Core.Bool.{false}
@@ -20,7 +20,7 @@ use Rattle.search.specs.steps.Tables.{tableUpTo, Sized}
 use Rattle.search.specs.steps.Starts.{startEntry, aloneEntry}
 use Rattle.search.specs.steps.Ends.{endedBy}
 use Rattle.search.specs.steps.Picking.{isCandidate, LeastOf}
-use Rattle.search.specs.steps.Passing.{passedTo}
+use Rattle.search.specs.steps.Passing.{StepFits, passedTo}
 use Rattle.search.specs.steps.Marks.{settledCount}
 use Rattle.search.proofs.TableLaws.{up-to-sized}
 use Rattle.search.proofs.MarkLaws.{count-within}
@@ -60,7 +60,7 @@ module _ (book : List ℕ) (counts : Counts) (h : checkOf book ≡ Good counts) 
     pub picked-within : u < counts .turns
     picked-within = omega (arith, next .within, going .sized .cost)
 
-    pub picked-limits : (entryAt table u .cost ≤ 4000000000) × (entryAt table u .links < 65535)
+    pub picked-limits : StepFits (entryAt table u .cost) (entryAt table u .links)
     picked-limits = label-limits U limited good few r table marks (going .way r e) u next
 
     pub fewer-left : counts .turns - settledCount (set marks u 1) < counts .turns - settledCount marks

@@ -1,6 +1,6 @@
 pub mod TableLaws
 pub mod FilledTables
-pub mod TurnOrder
+pub mod LabelOrder
 pub mod Gathering
 pub mod FirstTurn
 pub mod Offers

@@ -40,8 +40,8 @@ none-settled (suc n) zero = refl
 none-settled (suc n) (suc t) = none-settled n t
 
 -- the settled turns are those before and the new one
-pub settled-more : (marks : List ℕ) (t k : ℕ) → t < length marks → isSettled (set marks t 1) k ≡ true → (isSettled marks k ≡ true) ⊎ (k ≡ t)
-settled-more marks t k h e = by (ℕ-discrete k t)
+pub settled-more : (marks : List ℕ) (t k : ℕ) → isSettled (set marks t 1) k ≡ true → (isSettled marks k ≡ true) ⊎ (k ≡ t)
+settled-more marks t k e = by (ℕ-discrete k t)
   where
     by : Dec (k ≡ t) → (isSettled marks k ≡ true) ⊎ (k ≡ t)
     by (yes same) = inr same

@@ -3,17 +3,17 @@ use Prim.Native.Nat.{ℕ, suc, _+_, _*_, _≤_, _<_}
 use mathlib.Core.Path.{_≡_, refl, sym, ap, _∙_, subst}
 use mathlib.Core.Logic.{_⊎_, inl, inr}
 use mathlib.Core.List.{List}
-use mathlib.Core.Bool.{Bool, true, false, not, _&&_, _||_, or-true}
+use mathlib.Core.Bool.{Bool, true, false, not, _&&_}
 use mathlib.Core.Option.{some}
 use native.Mathlib.Omega.{arith}
 use lib.Dec.{T, ltb, eqb}
 use lib.ListN.{length, getD, set, replicate, length-set, length-replicate}
-use borrow.Author.Tests.{lt-ltb, ltb-true, eq-eqb, ne-eqb, eqb-true, eqb-false, not-true}
+use borrow.Author.Tests.{lt-ltb, ltb-true, ne-eqb, eqb-true, eqb-false, not-true}
 use Rattle.book.proofs.Limits.{both}
 use Rattle.walk.specs.View.{View}
 use Rattle.walk.specs.Walks.{between, allowed, seconds, linkCost}
 use Rattle.walk.specs.Labels.{Key, Less, Entry, Table, entryAt, startBack, noEntry, TrueTurn, TrueTable}
-use Rattle.walk.specs.steps.Net.{Back, start, via, rank, Entry as Reached, reached, Ahead}
+use Rattle.walk.specs.steps.Net.{Back, start, via, rank, Entry as Reached, reached}
 use Rattle.walk.specs.steps.Sweep.{when, based, kept, offer}
 use Rattle.walk.specs.steps.Settling.{settleTo}
 use Rattle.walk.specs.steps.ViewNet.{net, key, isOpen, mayFollow, figures, unlessNone, backed, isNone, reading}
@@ -22,7 +22,6 @@ use Rattle.walk.proofs.theory.Settling.{Settling, settle-start, settle-end}
 use Rattle.walk.proofs.theory.SettlingStep.{TestedAhead, settle-step}
 use Rattle.walk.proofs.GoodView.{GoodView}
 use Rattle.walk.proofs.KeyLaws.{laws}
-use Rattle.walk.proofs.TrueEntries.{same-key}
 use Rattle.walk.proofs.Growth.{and-true, same-test}
 use Rattle.walk.proofs.Literal.{holds, shown}
 use Rattle.walk.proofs.ChosenLaws.{Limited}
@@ -30,50 +29,27 @@ use Rattle.walk.proofs.LabelLaws.{reading-figures, reading-none, turn-outside}
 use Rattle.search.specs.steps.Tables.{goesAhead, tableUpTo, Sized}
 use Rattle.search.specs.steps.Starts.{startEntry}
 use Rattle.search.specs.steps.Picking.{isSettled, isCandidate, LeastOf}
-use Rattle.search.specs.steps.Passing.{better, offeredIf, passedTo}
+use Rattle.search.specs.steps.Passing.{StepFits, better, offeredIf, passedTo}
 use Rattle.search.specs.steps.Marks.{settledCount}
+use Rattle.search.proofs.LabelOrder.{test-holds, test-fails}
 use Rattle.search.proofs.TableLaws.{up-to-sized, up-to-entry}
 use Rattle.search.proofs.MarkLaws.{count-within, count-more, count-none, none-settled, settled-more, settled-kept}
 
 -- ---- the test of two reached entries, as the theory wants it
 
-ahead : Key → Back → Key → Back → Bool
-ahead k b k′ b′ = ltb (k .cost) (k′ .cost) || eqb (k .cost) (k′ .cost) && (ltb (k .links) (k′ .links) || eqb (k .links) (k′ .links) && ltb (rank b) (rank b′))
+-- a start's rank is 0, and a turn's is one more than its number
+abbrev ranked : Key → Back → Entry
+ranked k b = record { cost = k .cost; links = k .links; back = rank b }
 
-module _ (U : View) (r : ℕ) where
-  ahead-yes : (k : Key) (b : Back) (k′ : Key) (b′ : Back) → ahead k b k′ b′ ≡ true → Ahead Key (net U r) k b k′ b′
-  unfolding ahead
-  ahead-yes k b k′ b′ h = costs (ltb (k .cost) (k′ .cost)) refl h
-    where
-      links : eqb (k .cost) (k′ .cost) ≡ true → (test : Bool) → ltb (k .links) (k′ .links) ≡ test → (test || eqb (k .links) (k′ .links) && ltb (rank b) (rank b′)) ≡ true → Ahead Key (net U r) k b k′ b′
-      links c true e h = inl (inr (eqb-true _ _ c, ltb-true _ _ e))
-      links c false e h =
-          let (l, d) = both (eqb (k .links) (k′ .links)) (ltb (rank b) (rank b′)) h in
-          inr (same-key k k′ (eqb-true _ _ c) (eqb-true _ _ l), ltb-true _ _ d)
+abbrev ahead : Key → Back → Key → Back → Bool
+ahead k b k′ b′ = goesAhead (ranked k b) (ranked k′ b′)
 
-      costs : (test : Bool) → ltb (k .cost) (k′ .cost) ≡ test → (test || eqb (k .cost) (k′ .cost) && (ltb (k .links) (k′ .links) || eqb (k .links) (k′ .links) && ltb (rank b) (rank b′))) ≡ true → Ahead Key (net U r) k b k′ b′
-      costs true e h = inl (inl (ltb-true _ _ e))
-      costs false e h =
-          let (c, rest) = both (eqb (k .cost) (k′ .cost)) (ltb (k .links) (k′ .links) || eqb (k .links) (k′ .links) && ltb (rank b) (rank b′)) h in
-          links c (ltb (k .links) (k′ .links)) refl rest
-
-  ahead-shown : (k : Key) (b : Back) (k′ : Key) (b′ : Back) → Ahead Key (net U r) k b k′ b′ → ahead k b k′ b′ ≡ true
-  unfolding ahead
-  ahead-shown k b k′ b′ (inl (inl h)) = rw (lt-ltb _ _ h)
-  ahead-shown k b k′ b′ (inl (inr h)) = rw (eq-eqb _ _ (h .0), lt-ltb _ _ (h .1)) (or-true (ltb (k .cost) (k′ .cost)))
-  ahead-shown k b k′ b′ (inr h) =
-      let c = ap (λ (x : Key). x .cost) (h .0) in
-      let l = ap (λ (x : Key). x .links) (h .0) in
-      rw (eq-eqb (k .cost) (k′ .cost) c, eq-eqb (k .links) (k′ .links) l, lt-ltb _ _ (h .1), or-true (ltb (k .links) (k′ .links))) (or-true (ltb (k .cost) (k′ .cost)))
-
-  tested-ahead : TestedAhead Key (net U r) ahead
-  tested-ahead =
-      record {
-        ahead-yes = ahead-yes;
-        ahead-no = λ k b k′ b′ e h.
-            let yes-ahead = ahead-shown k b k′ b′ h in
-            clash (cc);
-      }
+tested-ahead : (U : View) (r : ℕ) → TestedAhead Key (net U r) ahead
+tested-ahead U r =
+    record {
+      ahead-yes = λ k b k′ b′. test-holds (ranked k b) (ranked k′ b′);
+      ahead-no = λ k b k′ b′. test-fails (ranked k b) (ranked k′ b′);
+    }
 
 -- ---- entries as they stand in the lists
 
@@ -107,7 +83,7 @@ suc-test a b = same-test (ltb (suc a) (suc b)) (ltb a b) (λ h. lt-ltb a b (omeg
 -- a label through turn u goes ahead of a labelled entry by the numbers exactly where it does by the theory
 goes-ahead : (new old : Entry) → new .back < startBack → 3 ≤ new .links → 2 ≤ old .links → ((old .back ≡ startBack) × (old .links ≡ 2)) ⊎ (old .back < startBack)
     → goesAhead new old ≡ ahead (keyOf new) (via (new .back)) (keyOf old) (backOf old)
-unfolding goesAhead ahead
+unfolding goesAhead
 goes-ahead new old u l o (inl h) =
     let n = ne-eqb (new .links) (old .links) (λ z. omega arith) in
     rw n
@@ -250,7 +226,7 @@ module _ (U : View) (limited : Limited U) (good : GoodView U) (few : U .turns < 
     few-settled = omega (arith, more-done, count-within (set marks u 1), length-set marks u 1, way .marked, limited .turns)
 
     -- what the code needs of the picked label
-    pub label-limits : (entryAt table u .cost ≤ 4000000000) × (entryAt table u .links < 65535)
+    pub label-limits : StepFits (entryAt table u .cost) (entryAt table u .links)
     label-limits = (omega (arith, label .1, few-settled), omega (arith, label .0, few-settled))
 
     least : (v : ℕ) (k : Key) (b : Back) → v < U .turns → (T (isSettled marks v) → ⊥) → reading (entryAt table v) ≡ reached k b → Less k (keyOf (entryAt table u)) → ⊥
@@ -273,7 +249,7 @@ module _ (U : View) (limited : Limited U) (good : GoodView U) (few : U .turns < 
               settle-step Key (net U r) (laws U good r) ahead (tested-ahead U r) (isSettled marks) (λ t. reading (entryAt table t)) (way .inside) u (keyOf (entryAt table u)) (backOf (entryAt table u)) within
               unsettled (reading-labelled (entryAt table u) two-links) least
               (isSettled (set marks u 1)) (λ t. reading (entryAt (tableUpTo (U .turns) passed) t))
-              (λ t. (λ h. again (settled-more marks u t marked-within (holds _ h)), λ h. shown (settled-kept marks u t marked-within (once h))))
+              (λ t. (λ h. again (settled-more marks u t (holds _ h)), λ h. shown (settled-kept marks u t marked-within (once h))))
               (λ t h. ap reading (up-to-entry (U .turns) passed t h) ∙ passed-reading u (entryAt table u) (settledCount marks) within few-settled two-links (label .0) (label .1) t (entryAt table t) h (way .fine t h));
           fine = λ t h. subst (Fine (settledCount (set marks u 1))) (sym (up-to-entry (U .turns) passed t h)) (subst (λ (n : ℕ). Fine n (passed t)) (sym more-done) (passed-fine u (entryAt table u) (settledCount marks) within few-settled two-links (label .0) (label .1) t (entryAt table t) h (way .fine t h)));
         }

@@ -27,7 +27,7 @@ pub fn place(cost: &mut [u32], links: &mut [u16], back: &mut [u16], at: usize, l
 }
 
 // By cost, then links, then back.
-fn goes_ahead(one: Label, other: Label) -> bool
+pub fn goes_ahead(one: Label, other: Label) -> bool
     ensures { λ r. ⌜ r ≡ goesAhead (asEntry one) (asEntry other) ⌝ }
 {
     (one.cost < other.cost)

@@ -21,7 +21,7 @@ ghost use Rattle.walk.specs.Walks.{lookUp};
 ghost use Rattle.walk.specs.Labels.{entryAt};
 ghost use Rattle.walk.specs.steps.Pairs.{listedAt, stepTo};
 ghost use Rattle.search.specs.steps.Tables.{three, tableUpTo, Sized};
-ghost use Rattle.search.specs.steps.Passing.{passedBy, passedTo};
+ghost use Rattle.search.specs.steps.Passing.{StepFits, passedBy, passedTo};
 
 // Passes the label of turn `before`, its cost and links, on to one turn; its pairs end at `to`, and those before `at` are of earlier turns.
 fn pass(
@@ -39,7 +39,7 @@ fn pass(
     back: &mut [u16],
 )
     requires { ⌜ (checkOf (now book) ≡ Good counts) × (length (now walks) ≡ counts .turns) × (to ≤ counts .pairs) ⌝ }
-    requires { ⌜ (before .0 < counts .turns) × (turn .0 < counts .turns) × («cost_before» ≤ 4000000000) × («links_before» < 65535) ⌝ }
+    requires { ⌜ (before .0 < counts .turns) × (turn .0 < counts .turns) × StepFits «cost_before» «links_before» ⌝ }
     requires { ⌜ Sized (counts .turns) (three (now cost) (now links) (now back)) ⌝ }
     ensures { λ _. ⌜ three (now (cost .exit)) (now (links .exit)) (now (back .exit)) ≡ passedBy (stepTo (viewWith (now (book .entry)) counts (now (walks .entry))) (lookUp (listedAt (pairTable (now (book .entry)) counts) at to (turn .0)) (counts .«carry_over») (getD (now (walks .entry)) (before .0) 0) (getD (now (walks .entry)) (turn .0) 0)) (turn .0)) (three (now (cost .entry)) (now (links .entry)) (now (back .entry))) (before .0) «cost_before» «links_before» (turn .0) ⌝ }
 {
@@ -70,7 +70,7 @@ pub fn spread(
     back: &mut [u16],
 )
     requires { ⌜ (checkOf (now book) ≡ Good counts) × (length (now walks) ≡ counts .turns) ⌝ }
-    requires { ⌜ (before .0 < counts .turns) × («cost_before» ≤ 4000000000) × («links_before» < 65535) ⌝ }
+    requires { ⌜ (before .0 < counts .turns) × StepFits «cost_before» «links_before» ⌝ }
     requires { ⌜ Sized (counts .turns) (three (now cost) (now links) (now back)) ⌝ }
     ensures { λ _. ⌜ three (now (cost .exit)) (now (links .exit)) (now (back .exit)) ≡ tableUpTo (counts .turns) (λ t. passedTo (viewWith (now (book .entry)) counts (now (walks .entry))) (before .0) «cost_before» «links_before» (entryAt (three (now (cost .entry)) (now (links .entry)) (now (back .entry))) t) t) ⌝ }
 {

@@ -1,13 +1,16 @@
 // Picking the next turn to settle.
+use super::Label;
 use super::Picked;
 use super::figures::MOST_TURNS;
 use super::figures::UNREACHED;
+use super::labels::goes_ahead;
 use book::TurnNumber;
 ghost use mathlib.Core.Path.{_≡_};
 ghost use Prim.Native.Nat.{_<_, _≤_};
 ghost use lib.ListN.{length};
+ghost use Rattle.search.specs.steps.Tables.{asEntry};
 ghost use Rattle.search.specs.steps.Picking.{isCandidate, Picks};
-ghost use Rattle.search.specs.steps.Candidates.{Gathered, comesBefore, earlier, AllBelow, FirstAmong};
+ghost use Rattle.search.specs.steps.Candidates.{Gathered, turnLabel, comesBefore, earlier, AllBelow, FirstAmong};
 
 // Whether a turn is reached and not settled.
 fn is_candidate(cost: &[u32], settled: &[u8], turn: usize) -> bool
@@ -36,18 +39,24 @@ fn gather(cost: &[u32], settled: &[u8], candidates: &mut [u16]) -> usize
     }
 }
 
+// What a turn offers: its figures, and itself as the back.
+fn turn_label(cost: &[u32], links: &[u16], turn: u16) -> Label
+    requires { ⌜ (turn < length (now cost)) × (turn < length (now links)) ⌝ }
+    ensures { λ r. ⌜ asEntry r ≡ turnLabel (now (cost .entry)) (now (links .entry)) turn ⌝ }
+{
+    Label {
+        cost: cost[turn as usize],
+        links: links[turn as usize],
+        back: turn,
+    }
+}
+
 // By cost, then links, then number.
 fn comes_before(cost: &[u32], links: &[u16], one: u16, other: u16) -> bool
     requires { ⌜ (length (now links) ≡ length (now cost)) × (one < length (now cost)) × (other < length (now cost)) ⌝ }
     ensures { λ r. ⌜ r ≡ comesBefore (now (cost .entry)) (now (links .entry)) one other ⌝ }
 {
-    let one_cost = cost[one as usize];
-    let other_cost = cost[other as usize];
-    let one_links = links[one as usize];
-    let other_links = links[other as usize];
-    (one_cost < other_cost)
-        | ((one_cost == other_cost)
-            & ((one_links < other_links) | ((one_links == other_links) & (one < other))))
+    goes_ahead(turn_label(cost, links, one), turn_label(cost, links, other))
 }
 
 // The one of two turns that comes before the other.

@@ -15,7 +15,7 @@ ghost use Rattle.walk.specs.View.{viewWith, viewOf, walksOf};
 ghost use Rattle.walk.specs.Labels.{entryAt, TrueTurn, TrueTable};
 ghost use Rattle.search.specs.steps.Tables.{three, tableUpTo, Sized};
 ghost use Rattle.search.specs.steps.Starts.{startEntry};
-ghost use Rattle.search.specs.steps.Passing.{passedTo};
+ghost use Rattle.search.specs.steps.Passing.{StepFits, passedTo};
 
 const SETTLED: u8 = 1;
 
@@ -31,7 +31,7 @@ fn settle(
 )
     requires { ⌜ (checkOf (now book) ≡ Good counts) × (length (now walks) ≡ counts .turns) ⌝ }
     requires { ⌜ Sized (counts .turns) (three (now cost) (now links) (now back)) ⌝ }
-    requires { ⌜ (length (now settled) ≡ counts .turns) × (turn .0 < counts .turns) × (getD (now cost) (turn .0) 0 ≤ 4000000000) × (getD (now links) (turn .0) 0 < 65535) ⌝ }
+    requires { ⌜ (length (now settled) ≡ counts .turns) × (turn .0 < counts .turns) × StepFits (getD (now cost) (turn .0) 0) (getD (now links) (turn .0) 0) ⌝ }
     ensures { λ _. ⌜ now (settled .exit) ≡ set (now (settled .entry)) (turn .0) 1 ⌝ }
     ensures { λ _. ⌜ three (now (cost .exit)) (now (links .exit)) (now (back .exit)) ≡ tableUpTo (counts .turns) (λ t. passedTo (viewWith (now (book .entry)) counts (now (walks .entry))) (turn .0) (getD (now (cost .entry)) (turn .0) 0) (getD (now (links .entry)) (turn .0) 0) (entryAt (three (now (cost .entry)) (now (links .entry)) (now (back .entry))) t) t) ⌝ }
 {

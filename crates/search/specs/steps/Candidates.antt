@@ -2,9 +2,10 @@
 use Prim.Native.Nat.{ℕ, zero, suc, _≤_, _<_}
 use mathlib.Core.Path.{_≡_}
 use mathlib.Core.List.{List, [], _∷_, _++_, List·Memᴰ}
-use mathlib.Core.Bool.{Bool, true, false, _&&_, _||_}
-use lib.Dec.{ltb, eqb}
+use mathlib.Core.Bool.{Bool, true, false}
 use lib.ListN.{getD, length, take}
+use Rattle.walk.specs.Labels.{Entry}
+use Rattle.search.specs.steps.Tables.{goesAhead}
 use Rattle.search.specs.steps.Picking.{isCandidate}
 
 abbrev pub addedIf : Bool → List ℕ → ℕ → List ℕ
@@ -21,9 +22,13 @@ pub record Gathered (cost settled list : List ℕ) (count : ℕ) : Type 0 where
   pub within : count ≤ length list
   pub candidates : take count list ≡ candidatesBelow cost settled (length cost)
 
--- by cost, then links, then number
-unfoldable pub comesBefore : List ℕ → List ℕ → ℕ → ℕ → Bool
-comesBefore cost links one other = ltb (getD cost one 0) (getD cost other 0) || eqb (getD cost one 0) (getD cost other 0) && (ltb (getD links one 0) (getD links other 0) || eqb (getD links one 0) (getD links other 0) && ltb one other)
+-- what a turn offers: its figures, and itself as the back
+abbrev pub turnLabel : List ℕ → List ℕ → ℕ → Entry
+turnLabel cost links turn = record { cost = getD cost turn 0; links = getD links turn 0; back = turn }
+
+-- so turns come by cost, then links, then number
+abbrev pub comesBefore : List ℕ → List ℕ → ℕ → ℕ → Bool
+comesBefore cost links one other = goesAhead (turnLabel cost links one) (turnLabel cost links other)
 
 abbrev pub chosenIf : Bool → ℕ → ℕ → ℕ
 chosenIf true one other = one

@@ -1,5 +1,5 @@
 -- A settled turn's label passed on to every turn that may follow it.
-use Prim.Native.Nat.{ℕ, suc, _+_}
+use Prim.Native.Nat.{ℕ, suc, _+_, _≤_, _<_}
 use mathlib.Core.Bool.{Bool, true, false}
 use Rattle.walk.specs.declared.Step.{Step}
 use Rattle.walk.specs.declared.Step.the-variants.{Barred, Seconds}
@@ -8,6 +8,10 @@ use Rattle.walk.specs.Walks.{between, seconds, linkCost}
 use Rattle.walk.specs.Labels.{Entry, Table}
 use Rattle.walk.specs.steps.ViewNet.{mayFollow}
 use Rattle.search.specs.steps.Tables.{goesAhead, offered}
+
+-- from this cost and these links one more step fits the buffers
+abbrev pub StepFits : ℕ → ℕ → Type 0
+StepFits cost links = (cost ≤ 4000000000) × (links < 65535)
 
 -- one turn, by the step to it: p's cost and links, and the step
 abbrev pub passedBy : Step → Table → ℕ → ℕ → ℕ → ℕ → Table

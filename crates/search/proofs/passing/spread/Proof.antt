@@ -51,7 +51,7 @@ pass-requires c κs =
     let spreading = test .before .turns .inv in
     let start = test .before .before .before .before .before .before .before .before .before .before in
     let within = followers-listed (spreading .runs) in
-    ((spreading .runs .checked, start .pre .0 .1, pairs-listed (spreading .runs)), ((start .pre .1 .0 .0, omega arith, start .pre .1 .0 .1, start .pre .1 .0 .2), spreading .sized))
+    ((spreading .runs .checked, start .pre .0 .1, pairs-listed (spreading .runs)), ((start .pre .1 .0 .0, omega arith, start .pre .1 .0 .1), spreading .sized))
 
 add-turn : tie.Need-add-turn Inv-turns μ-turns
 add-turn c =

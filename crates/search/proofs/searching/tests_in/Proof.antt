@@ -1,8 +1,8 @@
 -- The tests stand in the definition's order.
 use borrow.Author.Needs.{needs}
+use borrow.Author.Tests.{le-ltb, lt-ltb}
 use mathlib.Core.Path.{ap₂}
 use mathlib.Core.Bool.{_&&_}
-use borrow.Author.Tests.{le-ltb, lt-ltb}
 use Rattle.search.specs.Search.{searchTests}
 use Rattle.book.proofs.Answers.{held, failed}
 use Rattle.search.proofs.searching.tests_in.Statement.{statement}

@@ -24,7 +24,7 @@ slice-read-links-here c = search needs
 spread-requires : tie.Need-spread-requires
 spread-requires c κs =
     let start = c .before .before .before .before .before .before .before .before .before .before .before .before in
-    (start .pre .0, ((start .pre .1 .1 .1, start .pre .1 .1 .2, start .pre .1 .1 .3), start .pre .1 .0))
+    (start .pre .0, ((start .pre .1 .1 .1, start .pre .1 .1 .2), start .pre .1 .0))
 
 same-length : tie.Need-same-length
 same-length c = search needs

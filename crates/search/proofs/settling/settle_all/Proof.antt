@@ -35,8 +35,7 @@ settle-requires c κs =
     let going = c .before .before .before .before .before .before .before .before .before .before .before .settling .inv in
     let start = c .before .before .before .before .before .before .before .before .before .before .before .before .before .before .before .before .before .before in
     let next = subst (Picks _ _ _) (c .before .before .before .before .before .next .given .1) (c .before .before .before .before .before .before .before .pick .ensures) in
-    let here = picked-limits _ _ (start .pre .0 .0) _ _ _ going (start .pre .1 .0) (start .pre .1 .1) _ next in
-    ((start .pre .0 .0, ap length (start .pre .0 .1) ∙ up-to-length _ _), (going .sized, (going .marked, picked-within _ _ (start .pre .0 .0) _ _ _ going (start .pre .1 .0) (start .pre .1 .1) _ next, here .0, here .1)))
+    ((start .pre .0 .0, ap length (start .pre .0 .1) ∙ up-to-length _ _), (going .sized, (going .marked, picked-within _ _ (start .pre .0 .0) _ _ _ going (start .pre .1 .0) (start .pre .1 .1) _ next, picked-limits _ _ (start .pre .0 .0) _ _ _ going (start .pre .1 .0) (start .pre .1 .1) _ next)))
 
 settling-less : tie.Need-settling-less Inv-settling μ-settling
 settling-less c =

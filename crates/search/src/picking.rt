@@ -8,6 +8,7 @@ use book::TurnNumber;
 ghost use mathlib.Core.Path.{_≡_};
 ghost use Prim.Native.Nat.{_<_, _≤_};
 ghost use lib.ListN.{length};
+ghost use Rattle.book.specs.Header.{mostTurns};
 ghost use Rattle.search.specs.steps.Tables.{asEntry};
 ghost use Rattle.search.specs.steps.Picking.{isCandidate, Picks};
 ghost use Rattle.search.specs.steps.Candidates.{Gathered, turnLabel, comesBefore, earlier, AllBelow, FirstAmong};
@@ -22,7 +23,7 @@ fn is_candidate(cost: &[u32], settled: &[u8], turn: usize) -> bool
 
 // Writes the candidates in ascending order, and answers how many there are.
 fn gather(cost: &[u32], settled: &[u8], candidates: &mut [u16]) -> usize
-    requires { ⌜ (length (now settled) ≡ length (now cost)) × (length (now cost) ≤ length (now candidates)) × (length (now cost) ≤ 4096) ⌝ }
+    requires { ⌜ (length (now settled) ≡ length (now cost)) × (length (now cost) ≤ length (now candidates)) × (length (now cost) ≤ mostTurns) ⌝ }
     ensures { λ r. ⌜ Gathered (now (cost .entry)) (now (settled .entry)) (now (candidates .exit)) r ⌝ }
 {
     let mut count = 0;
@@ -89,7 +90,7 @@ fn least_of(cost: &[u32], links: &[u16], candidates: &[u16]) -> u16
 
 // The reached turn that is not settled and is least by cost, links, number.
 pub fn pick(cost: &[u32], links: &[u16], settled: &[u8]) -> Picked
-    requires { ⌜ (length (now links) ≡ length (now cost)) × (length (now settled) ≡ length (now cost)) × (length (now cost) ≤ 4096) ⌝ }
+    requires { ⌜ (length (now links) ≡ length (now cost)) × (length (now settled) ≡ length (now cost)) × (length (now cost) ≤ mostTurns) ⌝ }
     ensures { λ r. ⌜ Picks (now (cost .entry)) (now (links .entry)) (now (settled .entry)) r ⌝ }
 {
     let mut candidates = [0u16; MOST_TURNS];

@@ -32,6 +32,16 @@ sooner-still one other third (inr h) (inl g) = inl (subst (λ (key : Key). Less 
 sooner-still one other third (inr h) (inr g) = inr (h .0 ∙ g .0, omega (arith, h .1, g .1))
 
 module _ (one other : Entry) where
+  pub test-fails : goesAhead one other ≡ false → Sooner one other → ⊥
+  unfolding goesAhead
+  test-fails h (inl (inl l)) = clash (cc (rw (lt-ltb _ _ l) at h))
+  test-fails h (inl (inr l)) =
+      clash (cc (rw (equal-not-less _ _ (l .0), eq-eqb _ _ (l .0), lt-ltb _ _ (l .1)) at h))
+  test-fails h (inr l) = alike (ap (λ (key : Key). key .cost) (l .0)) (ap (λ (key : Key). key .links) (l .0))
+    where
+      alike : one .cost ≡ other .cost → one .links ≡ other .links → ⊥
+      alike a b = clash (cc (rw (equal-not-less _ _ a, eq-eqb _ _ a, equal-not-less _ _ b, eq-eqb _ _ b, lt-ltb _ _ (l .1)) at h))
+
   pub test-holds : goesAhead one other ≡ true → Sooner one other
   unfolding goesAhead
   test-holds h = by (ltb (one .cost) (other .cost)) refl (eqb (one .cost) (other .cost)) refl (ltb (one .links) (other .links)) refl (eqb (one .links) (other .links)) refl h
@@ -42,16 +52,6 @@ module _ (one other : Entry) where
       by false e true a true f same s h = inl (inr (eqb-true _ _ a, ltb-true _ _ f))
       by false e true a false f false s h = clash (cc)
       by false e true a false f true s h = inr (same-key _ _ (eqb-true _ _ a) (eqb-true _ _ s), ltb-true _ _ h)
-
-  pub test-fails : goesAhead one other ≡ false → Sooner one other → ⊥
-  unfolding goesAhead
-  test-fails h (inl (inl l)) = clash (cc (rw (lt-ltb _ _ l) at h))
-  test-fails h (inl (inr l)) =
-      clash (cc (rw (equal-not-less _ _ (l .0), eq-eqb _ _ (l .0), lt-ltb _ _ (l .1)) at h))
-  test-fails h (inr l) = alike (ap (λ (key : Key). key .cost) (l .0)) (ap (λ (key : Key). key .links) (l .0))
-    where
-      alike : one .cost ≡ other .cost → one .links ≡ other .links → ⊥
-      alike a b = clash (cc (rw (equal-not-less _ _ a, eq-eqb _ _ a, equal-not-less _ _ b, eq-eqb _ _ b, lt-ltb _ _ (l .1)) at h))
 
   -- a smaller number that does not come before has the greater key
   pub later : goesAhead one other ≡ false → one .back < other .back → Less (keyOf other) (keyOf one)

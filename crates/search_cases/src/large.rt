@@ -70,21 +70,19 @@ fn put_fan_links(bytes: &mut [u8], at: usize) -> usize {
     at
 }
 
-fn put_fan_turns_back(bytes: &mut [u8], at: usize) -> usize {
-    let mut at = at;
-    let mut link = 1u16;
-    'turns: while link < 2048 {
-        at = put_three(bytes, at, 0, link, 4);
-        link += 1;
+// The turn from the link across to one back, or the other way.
+fn put_fan_turn(bytes: &mut [u8], at: usize, link: u16, back: bool) -> usize {
+    if back {
+        return put_three(bytes, at, 0, link, 4);
     }
-    at
+    put_three(bytes, at, link, 0, 4)
 }
 
-fn put_fan_turns_across(bytes: &mut [u8], at: usize) -> usize {
+fn put_fan_turns(bytes: &mut [u8], at: usize, back: bool) -> usize {
     let mut at = at;
     let mut link = 1u16;
     'turns: while link < 2048 {
-        at = put_three(bytes, at, link, 0, 4);
+        at = put_fan_turn(bytes, at, link, back);
         link += 1;
     }
     at
@@ -107,7 +105,7 @@ pub fn put_fan(bytes: &mut [u8]) {
     let at = put_header(bytes, 2, 1, 2048, 4094, 2048, 6);
     let at = put(bytes, at, 3);
     let at = put_fan_links(bytes, at);
-    let at = put_fan_turns_back(bytes, at);
-    let at = put_fan_turns_across(bytes, at);
+    let at = put_fan_turns(bytes, at, true);
+    let at = put_fan_turns(bytes, at, false);
     put_fan_pairs(bytes, at);
 }

@@ -3,20 +3,20 @@ use Prim.Native.Nat.{_-_}
 use borrow.Author.Needs.{needs}
 use lib.ListN.{length}
 use mathlib.Core.Path.{_≡_}
-use Rattle.search_cases.proofs.large.put_fan_turns_across.Statement.{statement}
-use Rattle.search_cases.proofs.large.put_fan_turns_across.Tie as tie
+use Rattle.search_cases.proofs.large.put_fan_turns.Statement.{statement}
+use Rattle.search_cases.proofs.large.put_fan_turns.Tie as tie
 
 abbrev Inv-turns : tie.InvT-turns
-Inv-turns bytes₀ at at₀ link₀ bytes at' link = length bytes ≡ length bytes₀
+Inv-turns bytes₀ at back at₀ link₀ bytes at' link = length bytes ≡ length bytes₀
 
 abbrev μ-turns : tie.MeasureT-turns
-μ-turns bytes₀ at at₀ link₀ bytes at' link = 2048 - link
+μ-turns bytes₀ at back at₀ link₀ bytes at' link = 2048 - link
 
 turns-holds : tie.Need-turns-holds Inv-turns μ-turns
 turns-holds c = search needs
 
-put-three-requires : tie.Need-put-three-requires Inv-turns μ-turns
-put-three-requires c κs = search needs
+put-fan-turn-requires : tie.Need-put-fan-turn-requires Inv-turns μ-turns
+put-fan-turn-requires c κs = search needs
 
 add-link : tie.Need-add-link Inv-turns μ-turns
 add-link c = search needs
@@ -33,14 +33,14 @@ same-length c = search needs
 returns : tie.Need-returns Inv-turns μ-turns
 returns c = search needs
 
-pub put-fan-turns-across-spec : {M : Type 1} → statement M
-put-fan-turns-across-spec =
+pub put-fan-turns-spec : {M : Type 1} → statement M
+put-fan-turns-spec =
     tie.close
     (tie.spec
     Inv-turns
     μ-turns
     turns-holds
-    put-three-requires
+    put-fan-turn-requires
     add-link
     turns-less
     turns-again

@@ -16,7 +16,7 @@ use Rattle.search.specs.declared.Searched.{Searched}
 use Rattle.search.specs.Search.{Search, refused, done}
 use Rattle.search.specs.steps.Tables.{Sized}
 use Rattle.search.proofs.TableLaws.{same-table}
-use Rattle.search.proofs.Tested.{tests-passed}
+use Rattle.search.proofs.Tested.{search-passed}
 
 -- two true tables are one where every entry has one true value
 module _ (count : ℕ) (TrueAt : ℕ → Entry → Type 0) where
@@ -44,4 +44,4 @@ search-determined book r turns links one other t l t′ l′ (refused found e a 
 search-determined book r turns links one other t l t′ l′ (done counts e a b) (refused found′ e′ a′ b′ c′) = clash (cc)
 search-determined book r turns links one other t l t′ l′ (done counts e a b) (done counts′ e′ a′ b′) =
     let same : counts′ ≡ counts = cc in
-    (a ∙ sym a′, labels-one book counts (tests-passed (checkOf book) r turns links counts e .0) r t l t′ l′ b (subst (λ (x : Counts). TrueLabels (viewOf book x) r t′ l′) same b′))
+    (a ∙ sym a′, labels-one book counts (search-passed book r turns links counts e .0) r t l t′ l′ b (subst (λ (x : Counts). TrueLabels (viewOf book x) r t′ l′) same b′))

@@ -1,2 +1,4 @@
+pub mod Tests
 pub mod Search
+pub mod Route
 pub mod steps

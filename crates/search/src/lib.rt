@@ -1,4 +1,4 @@
-// Search: the labels of every turn and every link from one origin.
+// Search: the labels of every turn and every link from one origin, and the routes that are read from them.
 use book::Refusal;
 use book::TurnNumber;
 
@@ -10,6 +10,7 @@ mod picking;
 mod searching;
 mod settling;
 mod starts;
+mod tests;
 
 pub use searching::given_back;
 pub use searching::search;
@@ -31,4 +32,18 @@ pub enum Picked {
 pub enum Searched {
     Done,
     Refused(Refusal),
+}
+
+// What a route answers: cost and number of links of the chosen walk, or a refusal.
+pub enum Routed {
+    Done(u32, u16),
+    Refused(Refusal),
+}
+
+// An answer's number, place, cost and number of links.
+pub struct RouteFigures {
+    pub number: u8,
+    pub place: usize,
+    pub cost: u32,
+    pub links: u16,
 }

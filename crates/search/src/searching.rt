@@ -4,6 +4,8 @@ use super::ends::end_turns;
 use super::figures::MOST_TURNS;
 use super::settling::label_turns;
 use super::starts::start_links;
+use super::tests::length_test;
+use super::tests::node_test;
 use book::Checked;
 use book::Counts;
 use book::NodeNumber;
@@ -15,72 +17,8 @@ ghost use Rattle.book.specs.declared.Checked.the-variants.{Good};
 ghost use Rattle.book.specs.Check.{checkOf};
 ghost use Rattle.walk.specs.View.{viewOf};
 ghost use Rattle.walk.specs.Labels.{TrueLabels};
-ghost use Rattle.search.specs.Search.{fits, searchTests, searchGivenBack, Search};
+ghost use Rattle.search.specs.Search.{searchGivenBack, Search};
 ghost use Rattle.search.specs.steps.Tables.{three, Sized};
-
-fn fits(count: usize, cost: &[u32], links: &[u16], back: &[u16]) -> bool
-    ensures { λ r. ⌜ r ≡ fits count (three (now (cost .entry)) (now (links .entry)) (now (back .entry))) ⌝ }
-{
-    (cost.len() == count) & ((links.len() == count) & (back.len() == count))
-}
-
-// Tests 10 and 12.
-fn tests_in(
-    counts: Counts,
-    origin: NodeNumber,
-    turn_cost: &[u32],
-    turn_links: &[u16],
-    turn_back: &[u16],
-    link_cost: &[u32],
-    link_links: &[u16],
-    link_back: &[u16],
-) -> Checked
-    ensures { λ r. ⌜ r ≡ searchTests (Good counts) (origin .0) (three (now («turn_cost» .entry)) (now («turn_links» .entry)) (now («turn_back» .entry))) (three (now («link_cost» .entry)) (now («link_links» .entry)) (now («link_back» .entry))) ⌝ }
-{
-    if counts.nodes <= origin.0 as usize {
-        return Checked::Refused(Refusal {
-            number: 10,
-            place: 0,
-        });
-    }
-    if !(fits(counts.turns, turn_cost, turn_links, turn_back)
-        & fits(counts.links, link_cost, link_links, link_back)) {
-        return Checked::Refused(Refusal {
-            number: 12,
-            place: 0,
-        });
-    }
-    Checked::Good(counts)
-}
-
-fn tests(
-    book: &[u8],
-    origin: NodeNumber,
-    turn_cost: &[u32],
-    turn_links: &[u16],
-    turn_back: &[u16],
-    link_cost: &[u32],
-    link_links: &[u16],
-    link_back: &[u16],
-) -> Checked
-    ensures { λ r. ⌜ r ≡ searchTests (checkOf (now (book .entry))) (origin .0) (three (now («turn_cost» .entry)) (now («turn_links» .entry)) (now («turn_back» .entry))) (three (now («link_cost» .entry)) (now («link_links» .entry)) (now («link_back» .entry))) ⌝ }
-{
-    match check(book) {
-        Checked::Refused(found) => Checked::Refused(found),
-        Checked::Good(counts) => {
-            tests_in(
-                counts,
-                origin,
-                turn_cost,
-                turn_links,
-                turn_back,
-                link_cost,
-                link_links,
-                link_back,
-            )
-        }
-    }
-}
 
 // Every entry, from this origin, whatever the buffers held.
 fn label_all(
@@ -137,9 +75,8 @@ pub fn search(
 ) -> Searched
     ensures { λ r. ⌜ Search (now (book .entry)) (origin .0) (three (now («turn_cost» .entry)) (now («turn_links» .entry)) (now («turn_back» .entry))) (three (now («link_cost» .entry)) (now («link_links» .entry)) (now («link_back» .entry))) r (three (now («turn_cost» .exit)) (now («turn_links» .exit)) (now («turn_back» .exit))) (three (now («link_cost» .exit)) (now («link_links» .exit)) (now («link_back» .exit))) ⌝ }
 {
-    match tests(
-        book,
-        origin,
+    match length_test(
+        node_test(check(book), origin),
         turn_cost,
         turn_links,
         turn_back,

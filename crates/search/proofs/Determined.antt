@@ -1,26 +1,31 @@
--- What a search answers and leaves is fixed by the book, the origin and the lengths, since every entry has one true value.
-use Prim.Native.Nat.{ℕ, _<_}
-use mathlib.Core.Path.{_≡_, sym, _∙_, subst}
-use mathlib.Core.List.{List}
+-- What a search or a route answers and leaves is fixed by what it was lent, since every entry has one true value and the chosen walk is one.
+use Prim.Native.Nat.{ℕ, _≤_, _<_}
+use mathlib.Core.Path.{_≡_, sym, ap, _∙_, subst}
+use mathlib.Core.List.{List, _++_}
 use native.Mathlib.Omega.{arith}
+use lib.ListN.{length, drop}
 use Rattle.book.specs.declared.Counts.{Counts}
 use Rattle.book.specs.declared.Checked.the-variants.{Good}
 use Rattle.book.specs.Check.{checkOf}
 use Rattle.book.proofs.GoodBook.{good-book}
-use Rattle.walk.specs.View.{viewOf, walksOf}
-use Rattle.walk.specs.Labels.{Table, Entry, entryAt, startBack, TrueTable, TrueLabels}
+use Rattle.walk.specs.View.{View, viewOf, walksOf}
+use Rattle.walk.specs.Walks.{costOf}
+use Rattle.walk.specs.Labels.{Table, Entry, entryAt, startBack, TrueTable, TrueLabels, Route}
 use Rattle.walk.proofs.theory.Laws.{clash}
-use Rattle.walk.proofs.GoodView.{good-view}
-use Rattle.walk.proofs.LabelLaws.{turn-one, link-one}
+use Rattle.walk.proofs.GoodView.{GoodView, good-view}
+use Rattle.walk.proofs.LabelLaws.{turn-one, link-one, route-one}
 use Rattle.search.specs.declared.Searched.{Searched}
+use Rattle.search.specs.declared.Routed.{Routed}
+use Rattle.search.specs.declared.Routed.the-variants.{Done as RouteDone}
 use Rattle.search.specs.Search.{Search, refused, done}
+use Rattle.search.specs.Route.{RouteOnward, no-walk, no-room, done as routed, Routing, refused as route-refused, untrue, onward}
 use Rattle.search.specs.steps.Tables.{Sized}
 use Rattle.search.proofs.TableLaws.{same-table}
-use Rattle.search.proofs.Tested.{search-passed}
+use Rattle.search.proofs.Tested.{search-passed, route-passed}
 
 -- two true tables are one where every entry has one true value
 module _ (count : ℕ) (TrueAt : ℕ → Entry → Type 0) where
-  true-sized : (table : Table) → TrueTable count TrueAt table → Sized count table
+  pub true-sized : (table : Table) → TrueTable count TrueAt table → Sized count table
   true-sized table h = record { cost = h .costs; links = h .counts; back = h .backs }
 
   one-table : ((k : ℕ) (e f : Entry) → TrueAt k e → TrueAt k f → e ≡ f) → (one other : Table) → TrueTable count TrueAt one → TrueTable count TrueAt other → one ≡ other
@@ -45,3 +50,41 @@ search-determined book r turns links one other t l t′ l′ (done counts e a b)
 search-determined book r turns links one other t l t′ l′ (done counts e a b) (done counts′ e′ a′ b′) =
     let same : counts′ ≡ counts = cc in
     (a ∙ sym a′, labels-one book counts (search-passed book r turns links counts e .0) r t l t′ l′ b (subst (λ (x : Counts). TrueLabels (viewOf book x) r t′ l′) same b′))
+
+module _ (U : View) (good : GoodView U) (r s : ℕ) (buffer : List ℕ) where
+  -- a walk that has room and one that has none are not both the route
+  not-both : (walk other : List ℕ) → Route U r s walk → Route U r s other → length walk ≤ length buffer → length buffer < length other → ⊥
+  not-both walk other w v fits short = omega (arith, ap length (route-one U good r s walk other w v))
+
+  onward-determined : (one other : Routed) (after-one after-other : List ℕ) → RouteOnward U r s buffer one after-one → RouteOnward U r s buffer other after-other → (one ≡ other) × (after-one ≡ after-other)
+  onward-determined one other a b (no-walk n e f) (no-walk n′ e′ f′) = (e ∙ sym e′, f ∙ sym f′)
+  onward-determined one other a b (no-walk n e f) (no-room walk w short e′ f′) = absurd (n walk (w .walk))
+  onward-determined one other a b (no-walk n e f) (routed walk w fits e′ f′) = absurd (n walk (w .walk))
+  onward-determined one other a b (no-room walk w short e f) (no-walk n e′ f′) = absurd (n walk (w .walk))
+  onward-determined one other a b (no-room walk w short e f) (no-room walk′ w′ short′ e′ f′) = (e ∙ sym e′, f ∙ sym f′)
+  onward-determined one other a b (no-room walk w short e f) (routed walk′ w′ fits e′ f′) = absurd (not-both walk′ walk w′ w fits short)
+  onward-determined one other a b (routed walk w fits e f) (no-walk n e′ f′) = absurd (n walk (w .walk))
+  onward-determined one other a b (routed walk w fits e f) (no-room walk′ w′ short e′ f′) = absurd (not-both walk walk′ w w′ fits short)
+  onward-determined one other a b (routed walk w fits e f) (routed walk′ w′ fits′ e′ f′) =
+      let same = route-one U good r s walk walk′ w w′ in
+      (e ∙ ap (λ (x : List ℕ). RouteDone (costOf U x) (length x)) same ∙ sym e′, f ∙ ap (λ (x : List ℕ). x ++ drop (length x) buffer) same ∙ sym f′)
+
+-- two outcomes that the contract of a route allows for one input are equal
+pub route-determined : (book : List ℕ) (r s : ℕ) (turns links : Table) (buffer : List ℕ) (one other : Routed) (after-one after-other : List ℕ) → Routing book r s turns links buffer one after-one → Routing book r s turns links buffer other after-other
+    → (one ≡ other) × (after-one ≡ after-other)
+route-determined book r s turns links buffer one other a b (route-refused found e f g) (route-refused found′ e′ f′ g′) = (cc, g ∙ sym g′)
+route-determined book r s turns links buffer one other a b (route-refused found e f g) (untrue counts e′ n f′ g′) = clash (cc)
+route-determined book r s turns links buffer one other a b (route-refused found e f g) (onward counts e′ labels w) = clash (cc)
+route-determined book r s turns links buffer one other a b (untrue counts e n f g) (route-refused found e′ f′ g′) = clash (cc)
+route-determined book r s turns links buffer one other a b (untrue counts e n f g) (untrue counts′ e′ n′ f′ g′) = (f ∙ sym f′, g ∙ sym g′)
+route-determined book r s turns links buffer one other a b (untrue counts e n f g) (onward counts′ e′ labels w) =
+    let same : counts′ ≡ counts = cc in
+    absurd (n (subst (λ (x : Counts). TrueLabels (viewOf book x) r turns links) same labels))
+route-determined book r s turns links buffer one other a b (onward counts e labels w) (route-refused found e′ f′ g′) = clash (cc)
+route-determined book r s turns links buffer one other a b (onward counts e labels w) (untrue counts′ e′ n f g) =
+    let same : counts ≡ counts′ = cc in
+    absurd (n (subst (λ (x : Counts). TrueLabels (viewOf book x) r turns links) same labels))
+route-determined book r s turns links buffer one other a b (onward counts e labels w) (onward counts′ e′ labels′ w′) =
+    let same : counts′ ≡ counts = cc in
+    let good = good-view book counts (walksOf book counts) (route-passed book r s turns links counts e .0) in
+    onward-determined (viewOf book counts) good r s buffer one other a b w (subst (λ (x : Counts). RouteOnward (viewOf book x) r s buffer other b) same w′)

@@ -45,7 +45,7 @@ module _ (book : List ℕ) (counts : Counts) (h : checkOf book ≡ Good counts) 
   good : GoodView U
   good = good-view book counts (walksOf book counts) h
 
-  few : U .turns < startBack
+  pub few : U .turns < startBack
   few = omega (arith, good-book book counts h .limited)
 
   pub set-going : (start : Table) (marks : List ℕ) (r : ℕ) → Starts book counts start r → marks ≡ replicate (counts .turns) 0 → Going book counts start start marks

@@ -29,55 +29,56 @@ use Rattle.search.proofs.TableLaws.{offered-at, offered-elsewhere, up-t
 use Rattle.search.proofs.Underway.{reading-labelled, ahead-of-none}
 use Rattle.search.proofs.EndedTurns.{ended-sized}
 
--- what a link holds after the first n turns: nothing, the walk of the link alone, or the walk of one of them
-data Held (n : ℕ) : Reached Key → Type 0 where
-  none-held : Held n unreached
-  alone-held : (k : Key) → k .links ≡ 1 → Held n (reached k start)
-  turn-held : (k : Key) (p : ℕ) → p < n → Held n (reached k (via p))
+-- what is held after the first n of those that offer their walks: nothing, a walk of fewer links than any of theirs, or the walk of one of them
+pub data Held (fewest n : ℕ) : Reached Key → Type 0 where
+  none-held : Held fewest n unreached
+  alone-held : (k : Key) → k .links < fewest → Held fewest n (reached k start)
+  offer-held : (k : Key) (p : ℕ) → p < n → Held fewest n (reached k (via p))
 
--- what it holds when turn t has offered a walk of key k
-abbrev taken : Reached Key → Key → ℕ → Reached Key
+-- what is held when t has offered a walk of key k
+abbrev pub taken : Reached Key → Key → ℕ → Reached Key
 taken held k t = offer Key (byKey keyLess) held (some k) (via t)
 
-still-held : {n : ℕ} {held : Reached Key} → Held n held → Held (suc n) held
+pub still-held : {fewest n : ℕ} {held : Reached Key} → Held fewest n held → Held fewest (suc n) held
 still-held none-held = none-held
 still-held (alone-held k e) = alone-held k e
-still-held (turn-held k p h) = turn-held k p (omega arith)
+still-held (offer-held k p h) = offer-held k p (omega arith)
 
-module _ (t : ℕ) (k : Key) where
-  either-held : (test : Bool) {k′ : Key} {b : Back} → Held t (reached k′ b) → Held (suc t) (kept Key (byKey keyLess) test k (via t) (reached k′ b))
-  either-held true h = turn-held k t (omega arith)
+module _ {fewest : ℕ} (t : ℕ) (k : Key) where
+  either-held : (test : Bool) {k′ : Key} {b : Back} → Held fewest t (reached k′ b) → Held fewest (suc t) (kept Key (byKey keyLess) test k (via t) (reached k′ b))
+  either-held true h = offer-held k t (omega arith)
   either-held false h = still-held h
 
-  taken-held : {held : Reached Key} → Held t held → Held (suc t) (taken held k t)
-  taken-held none-held = turn-held k t (omega arith)
+  pub taken-held : {held : Reached Key} → Held fewest t held → Held fewest (suc t) (taken held k t)
+  taken-held none-held = offer-held k t (omega arith)
   taken-held (alone-held k′ e) = either-held (keyLess k k′) (alone-held k′ e)
-  taken-held (turn-held k′ p h) = either-held (keyLess k k′) (turn-held k′ p h)
+  taken-held (offer-held k′ p h) = either-held (keyLess k k′) (offer-held k′ p h)
 
-  abbrev label : Entry
-  label = figures (reached k (via t))
+abbrev pub label : ℕ → Key → Entry
+label t k = figures (reached k (via t))
 
+module _ (t : ℕ) (k : Key) where
   -- where links and back do not decide, the label goes ahead by the numbers exactly where its key is less
   by-key : (k′ : Key) (b : Back) → (eqb (k .links) (k′ .links) && ltb t (backNumber b)) ≡ false
-      → better (goesAhead label (figures (reached k′ b))) label (figures (reached k′ b)) ≡ figures (taken (reached k′ b) k t)
+      → better (goesAhead (label t k) (figures (reached k′ b))) (label t k) (figures (reached k′ b)) ≡ figures (taken (reached k′ b) k t)
   unfolding goesAhead
   by-key k′ b no-tie = rw (no-tie, or-false (ltb (k .links) (k′ .links))) (by (keyLess k k′))
     where
-      by : (test : Bool) → better test label (figures (reached k′ b)) ≡ figures (kept Key (byKey keyLess) test k (via t) (reached k′ b))
+      by : (test : Bool) → better test (label t k) (figures (reached k′ b)) ≡ figures (kept Key (byKey keyLess) test k (via t) (reached k′ b))
       by true = refl
       by false = refl
 
-  -- they do not: an earlier turn is held, or a walk of one link
-  taken-figures : 2 ≤ k .links → k .cost < noEntry .cost → {held : Reached Key} → Held t held → better (goesAhead label (figures held)) label (figures held) ≡ figures (taken held k t)
-  taken-figures two small none-held = rw (ahead-of-none label small)
-  taken-figures two small (alone-held k′ e) = by-key k′ start (rw (ne-eqb (k .links) (k′ .links) (λ z. omega arith)))
-  taken-figures two small (turn-held k′ p h) = by-key k′ (via p) (rw (le-ltb t p (omega arith)) (and-false (eqb (k .links) (k′ .links))))
+  -- they do not: an earlier one's walk is held, or one of fewer links
+  pub taken-figures : {fewest : ℕ} → fewest ≤ k .links → k .cost < noEntry .cost → {held : Reached Key} → Held fewest t held → better (goesAhead (label t k) (figures held)) (label t k) (figures held) ≡ figures (taken held k t)
+  taken-figures enough small none-held = rw (ahead-of-none (label t k) small)
+  taken-figures enough small (alone-held k′ e) = by-key k′ start (rw (ne-eqb (k .links) (k′ .links) (λ z. omega arith)))
+  taken-figures enough small (offer-held k′ p h) = by-key k′ (via p) (rw (le-ltb t p (omega arith)) (and-false (eqb (k .links) (k′ .links))))
 
 -- an entry that is none, or has two links or more and a cost below that of none
 abbrev NoneOrLimited : Entry → Type 0
 NoneOrLimited e = (e ≡ noEntry) ⊎ ((2 ≤ e .links) × (e .cost < noEntry .cost))
 
-when-none : (test : Bool) → when {A = Key} test none ≡ none
+pub when-none : (test : Bool) → when {A = Key} test none ≡ none
 when-none true = refl
 when-none false = refl
 
@@ -94,7 +95,7 @@ module _ (U : View) (good : GoodView U) (limited : Limited U) (few : U .turns < 
 
   record Same (n l : ℕ) : Type 0 where
     pub entry : entryAt (ended n) l ≡ figures (swept n l)
-    pub held : Held n (swept n l)
+    pub held : Held 2 n (swept n l)
 
   turn-limits : (t : ℕ) → TrueTurn U r t (entryAt turns t) → NoneOrLimited (entryAt turns t)
   turn-limits t (absent n same) = inl same
@@ -107,8 +108,8 @@ module _ (U : View) (good : GoodView U) (limited : Limited U) (few : U .turns < 
   unfolding aloneEntry endedBy
   alone-same l h = record { entry = up-to-entry (U .links) (aloneEntry U r) l h; held = by (net U r .leaves l) }
     where
-      by : (test : Bool) → Held 0 (based (when test (some (net U r .alone l))))
-      by true = alone-held (net U r .alone l) refl
+      by : (test : Bool) → Held 2 0 (based (when test (some (net U r .alone l))))
+      by true = alone-held (net U r .alone l) (omega arith)
       by false = none-held
 
   module _ (t l : ℕ) (before : Same t l) (within : l < U .links) where
@@ -119,7 +120,7 @@ module _ (U : View) (good : GoodView U) (limited : Limited U) (few : U .turns < 
     untouched : hand ≡ none → entryAt (ended (suc t)) l ≡ entryAt (ended t) l → Same (suc t) l
     untouched silent same =
         let stays : swept (suc t) l ≡ swept t l = ap (λ (o : Option Key). offer Key (byKey keyLess) (swept t l) o (via t)) silent in
-        record { entry = same ∙ before .entry ∙ ap figures (sym stays); held = subst (Held (suc t)) (sym stays) (still-held (before .held)) }
+        record { entry = same ∙ before .entry ∙ ap figures (sym stays); held = subst (Held 2 (suc t)) (sym stays) (still-held (before .held)) }
 
     one-more : NoneOrLimited (entryAt turns t) → Same (suc t) l
     unfolding endedBy
@@ -147,7 +148,7 @@ module _ (U : View) (good : GoodView U) (limited : Limited U) (few : U .turns < 
                   ∙ ap (λ (x : Entry). better (goesAhead (label t k) x) (label t k) x) (before .entry)
                   ∙ taken-figures t k two small (before .held)
                   ∙ ap figures (sym takes);
-              held = subst (Held (suc t)) (sym takes) (taken-held t k (before .held));
+              held = subst (Held 2 (suc t)) (sym takes) (taken-held t k (before .held));
             }
 
   all-same : (n : ℕ) → n ≤ U .turns → (l : ℕ) → l < U .links → Same n l

@@ -25,19 +25,20 @@ use Rattle.walk.specs.Labels.{Entry, Table, entryAt}
 use Rattle.walk.specs.steps.Pairs.{listedAt, stepTo, secondsMore}
 use Rattle.walk.specs.steps.ViewNet.{isOpen}
 use Rattle.walk.proofs.GoodView.{link-limit}
+use Rattle.walk.proofs.LimitedView.{extra-limit as any-extra}
 use Rattle.walk.proofs.OneMore.{stepped, open-step}
 use Rattle.walk.proofs.theory.Laws.{clash}
 use Rattle.search.specs.steps.Tables.{Sized}
 use Rattle.search.specs.steps.Passing.{passedBy, passedTo, offeredIf}
 use Rattle.search.proofs.TableLaws.{offered-sized, offered-at, offered-elsewhere}
 
-step-as : (U : View) (stands : Between) (t : ℕ) → stepTo U stands t ≡ stepped (isOpen U t && allowed stands) (secondsMore U (seconds stands) t)
+pub step-as : (U : View) (stands : Between) (t : ℕ) → stepTo U stands t ≡ stepped (isOpen U t && allowed stands) (secondsMore U (seconds stands) t)
 unfolding stepTo
 step-as U stands t = open-step U t (eqb (U .walk t) barred) stands
 
 -- the seconds of a step that is not barred
-seconds-of : (goes : Bool) (cost : ℕ) {more : ℕ} → stepped goes cost ≡ Seconds more → more ≡ cost
-seconds-of true cost e = cc
+seconds-of : (goes : Bool) (cost : ℕ) {more : ℕ} → stepped goes cost ≡ Seconds more → (goes ≡ true) × (more ≡ cost)
+seconds-of true cost e = (refl, cc)
 seconds-of false cost e = clash (cc)
 
 module _ (book : List ℕ) (counts : Counts) (checked : checkOf book ≡ Good counts) where
@@ -66,15 +67,25 @@ module _ (book : List ℕ) (counts : Counts) (checked : checkOf book ≡ Good co
           listed (eqb (pairExtra pairs at) barred) (omega arith) refl
       by false e = carried (ltb 0 before && ltb 0 after)
 
-  -- a step adds less than 171,000 seconds
+  -- a step adds less than 171,000 seconds, where it is not barred
+  adds-less : (walks : List ℕ) (t : ℕ) (stands : Between) {step : Step} {more : ℕ} → t < counts .turns → getD walks t 0 < 65536 → (allowed stands ≡ true → seconds stands ≤ 3600)
+      → step ≡ stepTo (viewWith book counts walks) stands t → step ≡ Seconds more → more < 171000
+  adds-less walks t stands {step} {more} listed small extra stepping adds =
+      let U = viewWith book counts walks in
+      let (goes, same) = seconds-of (isOpen U t && allowed stands) (secondsMore U (seconds stands) t) (sym (stepping ∙ step-as U stands t) ∙ adds) in
+      let link : linkCost U (U .second t) ≤ 39600 = link-limit book counts walks checked _ (g .turn t listed .second) in
+      let stood : seconds stands ≤ 3600 = extra (both (isOpen U t) (allowed stands) goes .1) in
+      omega arith
+
+  -- found beside the followers
   pub step-limit : (walks : List ℕ) (at to t before after : ℕ) {stands : Between} {step : Step} {more : ℕ} → to ≤ counts .pairs → t < counts .turns → getD walks t 0 < 65536
       → stands ≡ lookUp (listedAt pairs at to t) (counts .«carry_over») before after → step ≡ stepTo (viewWith book counts walks) stands t → step ≡ Seconds more → more < 171000
-  step-limit walks at to t before after {stands} {step} {more} within listed small stood stepping adds =
-      let U = viewWith book counts walks in
-      let extra : seconds stands ≤ 3600 = rw stood (extra-limit at to t before after within) in
-      let link : linkCost U (U .second t) ≤ 39600 = link-limit book counts walks checked _ (g .turn t listed .second) in
-      let same : more ≡ secondsMore U (seconds stands) t = seconds-of (isOpen U t && allowed stands) _ (sym (stepping ∙ step-as U stands t) ∙ adds) in
-      omega arith
+  step-limit walks at to t before after within listed small stood stepping adds = adds-less walks t _ listed small (λ a. rw stood (extra-limit at to t before after within)) stepping adds
+
+  -- or looked up
+  pub looked-up-limit : (walks : List ℕ) (p t : ℕ) {stands : Between} {step : Step} {more : ℕ} → t < counts .turns → getD walks t 0 < 65536
+      → stands ≡ between (viewWith book counts walks) p t → step ≡ stepTo (viewWith book counts walks) stands t → step ≡ Seconds more → more < 171000
+  looked-up-limit walks p t listed small stood stepping adds = adds-less walks t _ listed small (λ a. rw stood (any-extra book counts checked walks p t (rw stood at a))) stepping adds
 
 -- what passing the label of turn p on to turn t does to the table
 module _ (U : View) (p cost links t : ℕ) where

@@ -5,7 +5,7 @@ use mathlib.Core.List.{List}
 use mathlib.Core.Bool.{true, _&&_}
 use lib.Dec.{ltb, eqb}
 use lib.ListN.{length}
-use borrow.Author.Tests.{ltb-true, eqb-true}
+use borrow.Author.Tests.{ltb-true, eqb-true, eq-eqb}
 use Rattle.book.specs.declared.Counts.{Counts}
 use Rattle.book.specs.declared.Checked.{Checked}
 use Rattle.book.specs.declared.Checked.the-variants.{Good, Refused}
@@ -22,7 +22,7 @@ use Rattle.search.specs.steps.Tables.{Sized}
 own-counts : {own counts : Counts} → Good own ≡ Good counts → own ≡ counts
 own-counts e = cc
 
-node-passed : (checked : Checked) (node : ℕ) (counts : Counts) → nodeTest checked node ≡ Good counts → (checked ≡ Good counts) × (node < counts .nodes)
+pub node-passed : (checked : Checked) (node : ℕ) (counts : Counts) → nodeTest checked node ≡ Good counts → (checked ≡ Good counts) × (node < counts .nodes)
 unfolding nodeTest
 node-passed (Refused found) node counts h = clash (cc)
 node-passed (Good own) node counts h =
@@ -36,13 +36,19 @@ fits-sized count table h =
     let (l, b) = both (eqb (length (table .links)) count) (eqb (length (table .back)) count) rest in
     record { cost = eqb-true _ _ c; links = eqb-true _ _ l; back = eqb-true _ _ b }
 
-length-passed : (checked : Checked) (turns links : Table) (counts : Counts) → lengthTest checked turns links ≡ Good counts → (checked ≡ Good counts) × (Sized (counts .turns) turns × Sized (counts .links) links)
+pub length-passed : (checked : Checked) (turns links : Table) (counts : Counts) → lengthTest checked turns links ≡ Good counts → (checked ≡ Good counts) × (Sized (counts .turns) turns × Sized (counts .links) links)
 unfolding lengthTest
 length-passed (Refused found) turns links counts h = clash (cc)
 length-passed (Good own) turns links counts h =
     let (f, same) = passed (fits (own .turns) turns && fits (own .links) links) (refusal 12 0) (Good own) h in
     let (t, l) = both (fits (own .turns) turns) (fits (own .links) links) f in
     (same, (rw (own-counts same) at (fits-sized (own .turns) turns t), rw (own-counts same) at (fits-sized (own .links) links l)))
+
+-- buffers of the book's lengths pass
+pub lengths-fit : (checked : Checked) (turns links : Table) (counts : Counts) → checked ≡ Good counts → Sized (counts .turns) turns → Sized (counts .links) links → lengthTest checked turns links ≡ Good counts
+unfolding lengthTest fits
+lengths-fit checked turns links counts e t l =
+    rw (e, eq-eqb _ _ (t .cost), eq-eqb _ _ (t .links), eq-eqb _ _ (t .back), eq-eqb _ _ (l .cost), eq-eqb _ _ (l .links), eq-eqb _ _ (l .back))
 
 -- the tests one after the other
 pub search-tested : (book : List ℕ) (r : ℕ) (turns links : Table) {checked noded answer : Checked} → checked ≡ checkOf book → noded ≡ nodeTest checked r → answer ≡ lengthTest noded turns links → answer ≡ searchTests book r turns links

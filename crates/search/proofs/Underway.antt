@@ -105,7 +105,7 @@ module _ (U : View) (limited : Limited U) (good : GoodView U) (few : U .turns < 
   abbrev onward : ℕ → ℕ → Entry → Entry
   onward u t e = record { cost = e .cost + (seconds (between U u t) + U .walk t + linkCost U (U .second t)); links = suc (e .links); back = u }
 
-  step-most : (u t : ℕ) → u < U .turns → t < U .turns → mayFollow U u t ≡ true → seconds (between U u t) + U .walk t + linkCost U (U .second t) ≤ 46800
+  pub step-most : (u t : ℕ) → u < U .turns → t < U .turns → mayFollow U u t ≡ true → seconds (between U u t) + U .walk t + linkCost U (U .second t) ≤ 46800
   step-most u t hu ht f =
       let (j, rest) = both (eqb (U .second u) (U .first t)) (isOpen U t && allowed (between U u t)) f in
       let (o, a) = both (isOpen U t) (allowed (between U u t)) rest in

@@ -8,7 +8,7 @@ use Rattle.book.specs.declared.Refusal.{Refusal}
 use Rattle.book.specs.declared.Checked.{Checked}
 use Rattle.book.specs.declared.Checked.the-variants.{Good, Refused}
 use Rattle.book.specs.Check.{checkOf, refusal}
-use Rattle.walk.specs.View.{viewOf}
+use Rattle.walk.specs.View.{View, viewOf}
 use Rattle.walk.specs.Walks.{costOf}
 use Rattle.walk.specs.Labels.{Table, TrueLabels, NodeWalk, Route}
 use Rattle.search.specs.declared.Routed.{Routed}
@@ -24,20 +24,20 @@ abbrev pub routeGivenBack : Routed → RouteFigures
 routeGivenBack (Done cost links) = record { number = 0; place = 0; cost = cost; links = links }
 routeGivenBack (RouteRefused found) = record { number = found .number; place = found .place; cost = 0; links = 0 }
 
--- what a route from r to s answers, and leaves in the buffer that it was lent
+-- what a route over true labels answers, by the permitted walks alone, and leaves in the buffer that it was lent
+pub data RouteOnward (U : View) (r s : ℕ) (buffer : List ℕ) (answer : Routed) (after : List ℕ) : Type 0 where
+  no-walk : ((walk : List ℕ) → NodeWalk U r s walk → ⊥)
+      → answer ≡ RouteRefused (refusal 14 0) → after ≡ buffer → RouteOnward U r s buffer answer after
+  no-room : (walk : List ℕ) → Route U r s walk → length buffer < length walk
+      → answer ≡ RouteRefused (refusal 15 0) → after ≡ buffer → RouteOnward U r s buffer answer after
+  done : (walk : List ℕ) → Route U r s walk → length walk ≤ length buffer
+      → answer ≡ Done (costOf U walk) (length walk) → after ≡ walk ++ drop (length walk) buffer → RouteOnward U r s buffer answer after
+
+-- what a route from r to s answers: 1 to 10 and 12 by the tests, 13 where some entry is not the true one, and then by the walks
 pub data Routing (book : List ℕ) (r s : ℕ) (turns links : Table) (buffer : List ℕ) (answer : Routed) (after : List ℕ) : Type 0 where
-  -- 1 to 10 and 12
   refused : (found : Refusal) → routeTests book r s turns links ≡ Refused found
       → answer ≡ RouteRefused found → after ≡ buffer → Routing book r s turns links buffer answer after
-  -- some entry is not the true one
   untrue : (counts : Counts) → routeTests book r s turns links ≡ Good counts → (TrueLabels (viewOf book counts) r turns links → ⊥)
       → answer ≡ RouteRefused (refusal 13 0) → after ≡ buffer → Routing book r s turns links buffer answer after
-  no-walk : (counts : Counts) → routeTests book r s turns links ≡ Good counts → TrueLabels (viewOf book counts) r turns links
-      → ((walk : List ℕ) → NodeWalk (viewOf book counts) r s walk → ⊥)
-      → answer ≡ RouteRefused (refusal 14 0) → after ≡ buffer → Routing book r s turns links buffer answer after
-  no-room : (counts : Counts) → routeTests book r s turns links ≡ Good counts → TrueLabels (viewOf book counts) r turns links
-      → (walk : List ℕ) → Route (viewOf book counts) r s walk → length buffer < length walk
-      → answer ≡ RouteRefused (refusal 15 0) → after ≡ buffer → Routing book r s turns links buffer answer after
-  done : (counts : Counts) → routeTests book r s turns links ≡ Good counts → TrueLabels (viewOf book counts) r turns links
-      → (walk : List ℕ) → Route (viewOf book counts) r s walk → length walk ≤ length buffer
-      → answer ≡ Done (costOf (viewOf book counts) walk) (length walk) → after ≡ walk ++ drop (length walk) buffer → Routing book r s turns links buffer answer after
+  onward : (counts : Counts) → routeTests book r s turns links ≡ Good counts → TrueLabels (viewOf book counts) r turns links
+      → RouteOnward (viewOf book counts) r s buffer answer after → Routing book r s turns links buffer answer after

@@ -5,3 +5,7 @@ pub mod Picking
 pub mod Passing
 pub mod Marks
 pub mod Ends
+pub mod Judging
+pub mod Arriving
+pub mod Trails
+pub mod Routes

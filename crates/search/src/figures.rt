@@ -18,3 +18,8 @@ pub const START_BACK: u16 = 65534;
 
 // The most turns that a book may have.
 pub const MOST_TURNS: usize = 4096;
+
+// The most links, and the most seconds, of a chosen walk.
+pub const MOST_LINKS: u16 = 4097;
+
+pub const MOST_SECONDS: u32 = 191728800;

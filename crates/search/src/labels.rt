@@ -1,12 +1,18 @@
 // One entry of a table of labels: what it holds, and the offer of another label.
 use super::Label;
+use super::figures::MOST_LINKS;
+use super::figures::MOST_SECONDS;
+use super::figures::NO_WALK;
 ghost use mathlib.Core.Path.{_≡_};
 ghost use Prim.Native.Nat.{_<_};
 ghost use lib.ListN.{length};
 ghost use Rattle.walk.specs.Labels.{entryAt};
+ghost use Rattle.walk.specs.Counting.{sameEntry};
+ghost use Rattle.walk.specs.steps.ViewNet.{isNone};
 ghost use Rattle.search.specs.steps.Tables.{three, asEntry, placed, goesAhead, offered};
+ghost use Rattle.search.specs.steps.Judging.{limited};
 
-fn label_at(cost: &[u32], links: &[u16], back: &[u16], at: usize) -> Label
+pub fn label_at(cost: &[u32], links: &[u16], back: &[u16], at: usize) -> Label
     requires { ⌜ (at < length (now cost)) × (at < length (now links)) × (at < length (now back)) ⌝ }
     ensures { λ r. ⌜ asEntry r ≡ entryAt (three (now (cost .entry)) (now (links .entry)) (now (back .entry))) at ⌝ }
 {
@@ -44,4 +50,23 @@ pub fn offer(cost: &mut [u32], links: &mut [u16], back: &mut [u16], at: usize, l
     if goes_ahead(label, held) {
         place(cost, links, back, at, label);
     }
+}
+
+pub fn same_label(one: Label, other: Label) -> bool
+    ensures { λ r. ⌜ r ≡ sameEntry (asEntry one) (asEntry other) ⌝ }
+{
+    (one.cost == other.cost) & ((one.links == other.links) & (one.back == other.back))
+}
+
+pub fn is_none(label: Label) -> bool
+    ensures { λ r. ⌜ r ≡ isNone (asEntry label) ⌝ }
+{
+    same_label(label, NO_WALK)
+}
+
+// Whether a turn's chosen walk may have these figures.
+pub fn limited(label: Label) -> bool
+    ensures { λ r. ⌜ r ≡ limited (asEntry label) ⌝ }
+{
+    (2 <= label.links) & ((label.links <= MOST_LINKS) & (label.cost <= MOST_SECONDS))
 }

@@ -2,16 +2,24 @@
 use book::Refusal;
 use book::TurnNumber;
 
+mod arriving;
 mod ends;
 mod figures;
+mod judging;
 mod labels;
+mod offered;
 mod passing;
 mod picking;
+mod routing;
 mod searching;
 mod settling;
 mod starts;
 mod tests;
+mod tracing;
 
+pub use offered::check;
+pub use routing::route;
+pub use routing::route_given_back;
 pub use searching::given_back;
 pub use searching::search;
 

@@ -41,7 +41,7 @@ fn gather(cost: &[u32], settled: &[u8], candidates: &mut [u16]) -> usize
 }
 
 // What a turn offers: its figures, and itself as the back.
-fn turn_label(cost: &[u32], links: &[u16], turn: u16) -> Label
+pub fn turn_label(cost: &[u32], links: &[u16], turn: u16) -> Label
     requires { ⌜ (turn < length (now cost)) × (turn < length (now links)) ⌝ }
     ensures { λ r. ⌜ asEntry r ≡ turnLabel (now (cost .entry)) (now (links .entry)) turn ⌝ }
 {

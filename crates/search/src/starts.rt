@@ -22,7 +22,7 @@ ghost use Rattle.search.specs.steps.Tables.{three, asEntry, tableUpTo, S
 ghost use Rattle.search.specs.steps.Starts.{startEntry, aloneEntry};
 
 // A turn of two links, where it is open and its first link leaves the origin.
-fn start_of(
+pub fn start_of(
     book: &[u8],
     counts: Counts,
     walks: &[u16],
@@ -73,7 +73,7 @@ pub fn start_turns(
 }
 
 // A walk of one link, where it leaves the origin.
-fn alone(book: &[u8], counts: Counts, origin: NodeNumber, link: LinkNumber) -> Label
+pub fn alone(book: &[u8], counts: Counts, origin: NodeNumber, link: LinkNumber) -> Label
     requires { ⌜ (checkOf (now book) ≡ Good counts) × (link .0 < counts .links) ⌝ }
     ensures { λ r. ⌜ asEntry r ≡ aloneEntry (viewOf (now (book .entry)) counts) (origin .0) (link .0) ⌝ }
 {

@@ -6,6 +6,7 @@ use mathlib.Core.Bool.{Bool, true, false, _&&_}
 use mathlib.Core.Option.{Option, none, some}
 use native.Mathlib.Omega.{arith}
 use lib.Dec.{ltb, eqb}
+use lib.ListN.{getD}
 use borrow.Author.Tests.{eqb-false, not-true}
 use Rattle.book.specs.declared.Counts.{Counts}
 use Rattle.book.specs.declared.Checked.the-variants.{Good}
@@ -13,7 +14,7 @@ use Rattle.book.specs.Tables.{turnTable, pairTable}
 use Rattle.book.specs.Entries.{barred, turnWalk, pairFirst, pairSecond, pairExtra}
 use Rattle.book.specs.Check.{checkOf}
 use Rattle.book.proofs.GoodBook.{GoodBook, good-book}
-use Rattle.walk.specs.View.{viewOf, walksOf, listedIn, foundOr}
+use Rattle.walk.specs.View.{viewOf, viewWith, walksOf, listedIn, foundOr}
 use Rattle.walk.specs.Walks.{lookUp, listedAs, carriedIf, between, allowed, seconds}
 use Rattle.walk.specs.steps.ViewNet.{isOpen}
 use Rattle.walk.proofs.theory.Laws.{clash}
@@ -48,11 +49,12 @@ module _ (book : List ℕ) (counts : Counts) (h : checkOf book ≡ Good counts) 
       let limit = g .turn t l .seconds (λ z. opened (e ∙ z)) in
       omega arith
 
-  extra-limit : (p t : ℕ) → allowed (between (viewOf book counts) p t) ≡ true → seconds (between (viewOf book counts) p t) ≤ 3600
+  -- whatever the walks as seen are
+  pub extra-limit : (walks : List ℕ) (p t : ℕ) → allowed (between (viewWith book counts walks) p t) ≡ true → seconds (between (viewWith book counts walks) p t) ≤ 3600
   unfolding lookUp
-  extra-limit p t = by (viewOf book counts .listed p t) refl
+  extra-limit walks p t = by (listedIn (pairTable book counts) (counts .pairs) p t) refl
     where
-      listed : (extra : ℕ) (test : Bool) → eqb extra barred ≡ test → viewOf book counts .listed p t ≡ some extra → allowed (listedAs test extra) ≡ true → seconds (listedAs test extra) ≤ 3600
+      listed : (extra : ℕ) (test : Bool) → eqb extra barred ≡ test → listedIn (pairTable book counts) (counts .pairs) p t ≡ some extra → allowed (listedAs test extra) ≡ true → seconds (listedAs test extra) ≤ 3600
       listed extra true e same a = omega arith
       listed extra false e same a =
           let (k, l, at) = listed-from (pairTable book counts) (counts .pairs) p t extra same in
@@ -63,16 +65,16 @@ module _ (book : List ℕ) (counts : Counts) (h : checkOf book ≡ Good counts) 
       carried true = g .limited .carry-over
       carried false = omega arith
 
-      by : (found : Option ℕ) → viewOf book counts .listed p t ≡ found → allowed (lookUp found (counts .«carry_over») (viewOf book counts .walk p) (viewOf book counts .walk t)) ≡ true
-          → seconds (lookUp found (counts .«carry_over») (viewOf book counts .walk p) (viewOf book counts .walk t)) ≤ 3600
+      by : (found : Option ℕ) → listedIn (pairTable book counts) (counts .pairs) p t ≡ found → allowed (lookUp found (counts .«carry_over») (getD walks p 0) (getD walks t 0)) ≡ true
+          → seconds (lookUp found (counts .«carry_over») (getD walks p 0) (getD walks t 0)) ≤ 3600
       by (some extra) same a = listed extra (eqb extra barred) refl same a
-      by none same a = carried (ltb 0 (viewOf book counts .walk p) && ltb 0 (viewOf book counts .walk t))
+      by none same a = carried (ltb 0 (getD walks p 0) && ltb 0 (getD walks t 0))
 
   pub limited-view : Limited (viewOf book counts)
   limited-view =
       record {
         link = link-limit book counts (walksOf book counts) h;
         walk = walk-limit;
-        extra = λ p t _ _ a. extra-limit p t a;
+        extra = λ p t _ _ a. extra-limit (walksOf book counts) p t a;
         turns = g .limited .turns;
       }

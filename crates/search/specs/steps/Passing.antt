@@ -26,6 +26,10 @@ abbrev pub offeredIf : Bool → Entry → Entry → Entry
 offeredIf true new old = better (goesAhead new old) new old
 offeredIf false new old = old
 
--- what turn t's entry becomes when turn p, of this cost and these links, is settled
+-- what turn p, of this cost and these links, offers turn t
+abbrev pub onwardTo : View → ℕ → ℕ → ℕ → ℕ → Entry
+onwardTo U p cost links t = record { cost = cost + (seconds (between U p t) + U .walk t + linkCost U (U .second t)); links = suc links; back = p }
+
+-- what turn t's entry becomes when turn p is settled
 unfoldable pub passedTo : View → ℕ → ℕ → ℕ → Entry → ℕ → Entry
-passedTo U p cost links e t = offeredIf (mayFollow U p t) (record { cost = cost + (seconds (between U p t) + U .walk t + linkCost U (U .second t)); links = suc links; back = p }) e
+passedTo U p cost links e t = offeredIf (mayFollow U p t) (onwardTo U p cost links t) e

@@ -4,7 +4,8 @@ use borrow.Author.Needs.{needs}
 use native.Mathlib.Omega.{arith}
 use Rattle.search.specs.steps.Tables.{three}
 use Rattle.book.proofs.GoodBook.{good-book}
-use Rattle.search.proofs.Spreading.{Spreading, followers-listed, pairs-listed, set-out, goes-on, arrived}
+use Rattle.search.proofs.Spreading.{Spreading, set-out, goes-on, arrived}
+use Rattle.search.proofs.BothRuns.{followers-listed, pairs-listed}
 use Rattle.search.proofs.passing.spread.Statement.{statement}
 use Rattle.search.proofs.passing.spread.Tie as tie
 
@@ -43,20 +44,20 @@ turns-holds c =
 pair-from-requires : tie.Need-pair-from-requires Inv-turns μ-turns
 pair-from-requires c κs =
     let spreading = c .before .turns .inv in
-    (spreading .runs .checked, (spreading .pairs-within, pairs-listed (spreading .runs)))
+    (spreading .both .runs .checked, (spreading .both .pairs-within, pairs-listed (spreading .both .runs)))
 
 pass-requires : tie.Need-pass-requires Inv-turns μ-turns
 pass-requires c κs =
     let test = c .before .before .before .before in
     let spreading = test .before .turns .inv in
     let start = test .before .before .before .before .before .before .before .before .before .before in
-    let within = followers-listed (spreading .runs) in
-    ((spreading .runs .checked, start .pre .0 .1, pairs-listed (spreading .runs)), ((start .pre .1 .0 .0, omega arith, start .pre .1 .0 .1), spreading .sized))
+    let within = followers-listed (spreading .both .runs) in
+    ((spreading .both .runs .checked, start .pre .0 .1, pairs-listed (spreading .both .runs)), ((start .pre .1 .0 .0, omega arith, start .pre .1 .0 .1), spreading .sized))
 
 add-turn : tie.Need-add-turn Inv-turns μ-turns
 add-turn c =
     let test = c .before .before .before .before .before .before .before .before .before .before .before in
-    let runs = test .before .turns .inv .runs in
+    let runs = test .before .turns .inv .both .runs in
     omega (arith, test .turns-test .taken, followers-listed runs, good-book _ _ (runs .checked) .limited .turns)
 
 turns-less : tie.Need-turns-less Inv-turns μ-turns

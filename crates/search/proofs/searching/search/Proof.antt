@@ -1,11 +1,7 @@
 -- Each answer of the tests is one case of the contract.
 use borrow.Author.Needs.{needs}
-use denote.Ref.{now}
-use mathlib.Core.Path.{_≡_, refl, sym, ap, _∙_}
-use Rattle.book.specs.declared.Checked.{Checked}
-use Rattle.search.specs.Tests.{nodeTest, lengthTest}
-use Rattle.search.specs.Search.{searchTests, refused, done}
-use Rattle.search.specs.steps.Tables.{three}
+use mathlib.Core.Path.{refl, sym, _∙_}
+use Rattle.search.specs.Search.{refused, done}
 use Rattle.search.proofs.Tested.{search-tested, search-passed}
 use Rattle.search.proofs.searching.search.Statement.{statement}
 use Rattle.search.proofs.searching.search.Tie as tie
@@ -16,83 +12,63 @@ use Rattle.search.proofs.tests.length_test.Reads as length-test-reads
 use Rattle.search.proofs.tests.node_test.Reads as node-test-reads
 use Rattle.walk.proofs.check.Reads as check-reads
 
--- src/searching.rt:79:19
 check-requires : tie.Need-check-requires
 check-requires c κs = search needs
 
--- src/searching.rt:79:9
 node-test-requires : tie.Need-node-test-requires
 node-test-requires c κs = search needs
 
--- src/searching.rt:78:11
 length-test-requires : tie.Need-length-test-requires
 length-test-requires c κs = search needs
 
--- src/searching.rt:87:26
 enum-known-found : tie.Need-enum-known-found
 enum-known-found c = search needs
 
--- src/searching.rt:88:23
 enum-known-counts : tie.Need-enum-known-counts
 enum-known-counts c = search needs
 
--- src/searching.rt:89:13
 label-all-requires : tie.Need-label-all-requires
 label-all-requires c κs = search-passed _ _ _ _ _ (sym (search-tested _ _ _ _ (c .before .before .before .before .before .before .before .before .before .before .before .before .before .before .before .before .before .check .ensures) (c .before .before .before .before .before .before .before .before .before .before .before .before .before .before .before .before .node-test .ensures) (c .before .before .before .before .before .before .before .before .before .length-test .ensures)) ∙ c .before .before .before .before .before .before .before .counts .given .1)
 
--- src/searching.rt:66:1
 same-length : tie.Need-same-length
 same-length c = search needs
 
--- src/searching.rt:66:1
 same-length-2 : tie.Need-same-length-2
 same-length-2 c = search needs
 
--- src/searching.rt:66:1
 same-length-3 : tie.Need-same-length-3
 same-length-3 c = search needs
 
--- src/searching.rt:66:1
 same-length-4 : tie.Need-same-length-4
 same-length-4 c = search needs
 
--- src/searching.rt:66:1
 same-length-5 : tie.Need-same-length-5
 same-length-5 c = search needs
 
--- src/searching.rt:66:1
 same-length-6 : tie.Need-same-length-6
 same-length-6 c = search needs
 
--- src/searching.rt:66:1
 returns : tie.Need-returns
 returns c = refused _ (sym (search-tested _ _ _ _ (c .before .before .before .before .before .before .before .before .before .before .before .check .ensures) (c .before .before .before .before .before .before .before .before .before .before .node-test .ensures) (c .before .before .before .length-test .ensures)) ∙ c .before .found .given .1) refl refl refl
 
--- src/searching.rt:66:1
 same-length-7 : tie.Need-same-length-7
 same-length-7 c = search needs
 
--- src/searching.rt:66:1
 same-length-8 : tie.Need-same-length-8
 same-length-8 c = search needs
 
--- src/searching.rt:66:1
 same-length-9 : tie.Need-same-length-9
 same-length-9 c = search needs
 
--- src/searching.rt:66:1
 same-length-10 : tie.Need-same-length-10
 same-length-10 c = search needs
 
--- src/searching.rt:66:1
 same-length-11 : tie.Need-same-length-11
 same-length-11 c = search needs
 
--- src/searching.rt:66:1
 same-length-12 : tie.Need-same-length-12
 same-length-12 c = search needs
 
--- src/searching.rt:66:1
 returns-2 : tie.Need-returns-2
 returns-2 c = done _ (sym (search-tested _ _ _ _ (c .before .before .before .before .before .before .before .before .before .before .before .before .before .before .before .before .before .before .before .before .before .before .before .before .before .before .before .before .before .before .check .ensures) (c .before .before .before .before .before .before .before .before .before .before .before .before .before .before .before .before .before .before .before .before .before .before .before .before .before .before .before .before .before .node-test .ensures) (c .before .before .before .before .before .before .before .before .before .before .before .before .before .before .before .before .before .before .before .before .before .before .length-test .ensures)) ∙ c .before .before .before .before .before .before .before .before .before .before .before .before .before .before .before .before .before .before .before .before .counts .given .1) refl (c .before .before .before .before .before .before .before .before .before .before .before .before .label-all .ensures)
 

@@ -10,33 +10,26 @@ use Rattle.search.proofs.tests.length_test.Reads as reads
 use Rattle.search.proofs.tests.length_test.Lts as lts
 use Rattle.search.proofs.tests.fits.Reads as fits-reads
 
--- src/tests.rt:44:26
 enum-known-checked : tie.Need-enum-known-checked
 enum-known-checked c = search needs
 
--- src/tests.rt:45:23
 enum-known-checked-2 : tie.Need-enum-known-checked-2
 enum-known-checked-2 c = search needs
 
--- src/tests.rt:46:18
 fits-requires : tie.Need-fits-requires
 fits-requires c κs = search needs
 
--- src/tests.rt:47:19
 fits-requires-2 : tie.Need-fits-requires-2
 fits-requires-2 c κs = search needs
 
--- src/tests.rt:48:17
 returns : tie.Need-returns
 unfolding lengthTest
 returns c = rw (c .before .before .before .before .checked2 .given .1, failed (ap₂ _&&_ (c .before .before .fits2 .ensures) (c .before .fits3 .ensures)) (c .if1 .taken))
 
--- src/tests.rt:32:1
 returns-2 : tie.Need-returns-2
 unfolding lengthTest
 returns-2 c = rw (c .before .checked .given .1)
 
--- src/tests.rt:32:1
 returns-3 : tie.Need-returns-3
 unfolding lengthTest
 returns-3 c = rw (c .before .before .before .before .checked2 .given .1, held (ap₂ _&&_ (c .before .before .fits2 .ensures) (c .before .fits3 .ensures)) (c .if1 .left))

@@ -7,29 +7,23 @@ use Rattle.search.proofs.tests.node_test.Tie as tie
 use Rattle.search.proofs.tests.node_test.Reads as reads
 use Rattle.search.proofs.tests.node_test.Lts as lts
 
--- src/tests.rt:13:26
 enum-known-checked : tie.Need-enum-known-checked
 enum-known-checked c = search needs
 
--- src/tests.rt:14:23
 enum-known-checked-2 : tie.Need-enum-known-checked-2
 enum-known-checked-2 c = search needs
 
--- src/tests.rt:15:32
 cast-if1 : tie.Need-cast-if1
 cast-if1 c = search needs
 
--- src/tests.rt:16:17
 returns : tie.Need-returns
 unfolding nodeTest
 returns c = rw (c .before .before .before .before .checked2 .given .1, le-ltb _ _ (c .if1 .taken))
 
--- src/tests.rt:9:1
 returns-2 : tie.Need-returns-2
 unfolding nodeTest
 returns-2 c = rw (c .before .checked .given .1)
 
--- src/tests.rt:9:1
 returns-3 : tie.Need-returns-3
 unfolding nodeTest
 returns-3 c = rw (c .before .before .before .before .checked2 .given .1, lt-ltb _ _ (c .if1 .left))

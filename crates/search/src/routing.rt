@@ -1,0 +1,179 @@
+// Route: the tests in order, then the chosen walk's links.
+use super::RouteFigures;
+use super::Routed;
+use super::arriving::best_into;
+use super::figures::MOST_TURNS;
+use super::figures::UNREACHED;
+use super::judging::judge;
+use super::tests::length_test;
+use super::tests::node_test;
+use super::tracing::trace;
+use book::Checked;
+use book::Counts;
+use book::LinkNumber;
+use book::NodeNumber;
+use book::Refusal;
+use walk::check;
+use walk::read_walks;
+ghost use mathlib.Core.Path.{_≡_};
+ghost use Rattle.book.specs.declared.Checked.the-variants.{Good};
+ghost use Rattle.book.specs.Check.{checkOf};
+ghost use Rattle.walk.specs.View.{viewOf};
+ghost use Rattle.walk.specs.Labels.{TrueLabels};
+ghost use Rattle.search.specs.Route.{routeGivenBack, RouteOnward, Routing};
+ghost use Rattle.search.specs.steps.Tables.{three, Sized};
+ghost use Rattle.search.specs.steps.Judging.{Tells};
+ghost use Rattle.search.specs.steps.Routes.{RouteFrom};
+
+// Test 13, with the book's own walks.
+fn labels_true(
+    book: &[u8],
+    counts: Counts,
+    origin: NodeNumber,
+    turn_cost: &[u32],
+    turn_links: &[u16],
+    turn_back: &[u16],
+    link_cost: &[u32],
+    link_links: &[u16],
+    link_back: &[u16],
+) -> bool
+    requires { ⌜ checkOf (now book) ≡ Good counts ⌝ }
+    requires { ⌜ (Sized (counts .turns) (three (now «turn_cost») (now «turn_links») (now «turn_back»))) × (Sized (counts .links) (three (now «link_cost») (now «link_links») (now «link_back»))) ⌝ }
+    ensures { λ r. ⌜ Tells r (TrueLabels (viewOf (now (book .entry)) counts) (origin .0) (three (now («turn_cost» .entry)) (now («turn_links» .entry)) (now («turn_back» .entry))) (three (now («link_cost» .entry)) (now («link_links» .entry)) (now («link_back» .entry)))) ⌝ }
+{
+    let turns = counts.turns;
+    let mut walks = [0u16; MOST_TURNS];
+    read_walks(book, counts, &mut walks[..turns]);
+    judge(
+        book,
+        counts,
+        &walks[..turns],
+        origin,
+        turn_cost,
+        turn_links,
+        turn_back,
+        link_cost,
+        link_links,
+        link_back,
+    )
+}
+
+// Tests 14 and 15 over true labels, and the walk.
+fn route_onward(
+    book: &[u8],
+    counts: Counts,
+    origin: NodeNumber,
+    destination: NodeNumber,
+    turn_back: &[u16],
+    link_cost: &[u32],
+    link_links: &[u16],
+    link_back: &[u16],
+    route: &mut [u16],
+) -> Routed
+    requires { ⌜ RouteFrom (now book) counts (origin .0) (now «turn_back») (three (now «link_cost») (now «link_links») (now «link_back»)) ⌝ }
+    ensures { λ r. ⌜ RouteOnward (viewOf (now (book .entry)) counts) (origin .0) (destination .0) (now (route .entry)) r (now (route .exit)) ⌝ }
+{
+    if origin.0 == destination.0 {
+        return Routed::Done(0, 0);
+    }
+    let best = best_into(book, counts, destination, link_cost, link_links);
+    if best.cost == UNREACHED {
+        return Routed::Refused(Refusal {
+            number: 14,
+            place: 0,
+        });
+    }
+    if route.len() < best.links as usize {
+        return Routed::Refused(Refusal {
+            number: 15,
+            place: 0,
+        });
+    }
+    trace(
+        book,
+        counts,
+        turn_back,
+        link_back,
+        LinkNumber(best.back),
+        best.links,
+        route,
+    );
+    Routed::Done(best.cost, best.links)
+}
+
+// Document 01, "What can be asked": the labels are lent for reading only, and of the route buffer only the walk's own places are written.
+pub fn route(
+    book: &[u8],
+    origin: NodeNumber,
+    destination: NodeNumber,
+    turn_cost: &[u32],
+    turn_links: &[u16],
+    turn_back: &[u16],
+    link_cost: &[u32],
+    link_links: &[u16],
+    link_back: &[u16],
+    route: &mut [u16],
+) -> Routed
+    ensures { λ r. ⌜ Routing (now (book .entry)) (origin .0) (destination .0) (three (now («turn_cost» .entry)) (now («turn_links» .entry)) (now («turn_back» .entry))) (three (now («link_cost» .entry)) (now («link_links» .entry)) (now («link_back» .entry))) (now (route .entry)) r (now (route .exit)) ⌝ }
+{
+    match length_test(
+        node_test(node_test(check(book), origin), destination),
+        turn_cost,
+        turn_links,
+        turn_back,
+        link_cost,
+        link_links,
+        link_back,
+    ) {
+        Checked::Refused(found) => Routed::Refused(found),
+        Checked::Good(counts) => {
+            if !labels_true(
+                book,
+                counts,
+                origin,
+                turn_cost,
+                turn_links,
+                turn_back,
+                link_cost,
+                link_links,
+                link_back,
+            ) {
+                return Routed::Refused(Refusal {
+                    number: 13,
+                    place: 0,
+                });
+            }
+            route_onward(
+                book,
+                counts,
+                origin,
+                destination,
+                turn_back,
+                link_cost,
+                link_links,
+                link_back,
+                route,
+            )
+        }
+    }
+}
+
+// Number, place, cost and number of links of an answer.
+pub fn route_given_back(answer: Routed) -> RouteFigures
+    ensures { λ r. ⌜ r ≡ routeGivenBack answer ⌝ }
+{
+    match answer {
+        Routed::Done(cost, links) => RouteFigures {
+            number: 0,
+            place: 0,
+            cost,
+            links,
+        },
+        Routed::Refused(found) => RouteFigures {
+            number: found.number,
+            place: found.place,
+            cost: 0,
+            links: 0,
+        },
+    }
+}

@@ -1,0 +1,10 @@
+pub mod StoreLaws
+pub mod DigitLaws
+pub mod LineLaws
+pub mod TestLaws
+pub mod Longest
+pub mod NeverFifteen
+pub mod Determined
+pub mod BookALine
+pub mod Plans
+pub mod Printed

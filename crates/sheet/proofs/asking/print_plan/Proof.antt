@@ -1,0 +1,95 @@
+-- The sheet's own buffers, cut to the book's counts, have their lengths.
+use Prim.Native.Nat.{_≤_}
+use lib.Seq.{length-take-le}
+use mathlib.Core.Path.{sym}
+use native.Mathlib.Omega.{arith}
+use Rattle.book.proofs.GoodBook.{good-book}
+use borrow.Author.Needs.{needs}
+use Rattle.sheet.proofs.asking.print_plan.Statement.{statement}
+use Rattle.sheet.proofs.asking.print_plan.Tie as tie
+use Rattle.sheet.proofs.asking.print_plan.Reads as reads
+use Rattle.sheet.proofs.asking.print_plan.Lts as lts
+use Rattle.sheet.proofs.asking.print_search.Reads as print-search-reads
+
+few : (c : tie.Start) → (c .args .counts .turns ≤ 4096) × (c .args .counts .links ≤ 2048)
+few c =
+    let limited = good-book _ _ (c .pre .0) .limited in
+    (limited .turns, limited .links)
+
+array-borrow-prefix-turn-cost : tie.Need-array-borrow-prefix-turn-cost
+array-borrow-prefix-turn-cost c = few (c .before .before) .0
+
+slice-aggregate-print-search : tie.Need-slice-aggregate-print-search
+slice-aggregate-print-search c = sym (length-take-le _ _ (few (c .before .before .before) .0))
+
+array-borrow-prefix-turn-links : tie.Need-array-borrow-prefix-turn-links
+array-borrow-prefix-turn-links c = few (c .before .before .before) .0
+
+slice-aggregate-print-search-2 : tie.Need-slice-aggregate-print-search-2
+slice-aggregate-print-search-2 c = sym (length-take-le _ _ (few (c .before .before .before .before) .0))
+
+array-borrow-prefix-turn-back : tie.Need-array-borrow-prefix-turn-back
+array-borrow-prefix-turn-back c = few (c .before .before .before .before) .0
+
+slice-aggregate-print-search-3 : tie.Need-slice-aggregate-print-search-3
+slice-aggregate-print-search-3 c = sym (length-take-le _ _ (few (c .before .before .before .before .before) .0))
+
+array-borrow-prefix-link-cost : tie.Need-array-borrow-prefix-link-cost
+array-borrow-prefix-link-cost c = few (c .before .before .before .before .before) .1
+
+slice-aggregate-print-search-4 : tie.Need-slice-aggregate-print-search-4
+slice-aggregate-print-search-4 c = sym (length-take-le _ _ (few (c .before .before .before .before .before .before) .1))
+
+array-borrow-prefix-link-links : tie.Need-array-borrow-prefix-link-links
+array-borrow-prefix-link-links c = few (c .before .before .before .before .before .before) .1
+
+slice-aggregate-print-search-5 : tie.Need-slice-aggregate-print-search-5
+slice-aggregate-print-search-5 c = sym (length-take-le _ _ (few (c .before .before .before .before .before .before .before) .1))
+
+array-borrow-prefix-link-back : tie.Need-array-borrow-prefix-link-back
+array-borrow-prefix-link-back c = few (c .before .before .before .before .before .before .before) .1
+
+slice-aggregate-print-search-6 : tie.Need-slice-aggregate-print-search-6
+slice-aggregate-print-search-6 c = sym (length-take-le _ _ (few (c .before .before .before .before .before .before .before .before) .1))
+
+slice-aggregate-print-search-7 : tie.Need-slice-aggregate-print-search-7
+slice-aggregate-print-search-7 c = search needs
+
+print-search-requires : tie.Need-print-search-requires
+print-search-requires c κs =
+    let start = c .before .before .before .before .before .before .before .before .before .before in (
+      record {
+        counts = start .args .counts;
+        checked = start .pre .0;
+        turns-sized = record { cost = length-take-le _ _ (few start .0); links = length-take-le _ _ (few start .0); back = length-take-le _ _ (few start .0) };
+        links-sized = record { cost = length-take-le _ _ (few start .1); links = length-take-le _ _ (few start .1); back = length-take-le _ _ (few start .1) };
+      },
+      (omega arith, start .pre .1),
+    )
+
+same-length : tie.Need-same-length
+same-length c = search needs
+
+returns : tie.Need-returns
+returns c = search needs
+
+pub print-plan-spec : {M : Type 1} → statement M
+print-plan-spec =
+    tie.close
+    (tie.spec
+    array-borrow-prefix-turn-cost
+    slice-aggregate-print-search
+    array-borrow-prefix-turn-links
+    slice-aggregate-print-search-2
+    array-borrow-prefix-turn-back
+    slice-aggregate-print-search-3
+    array-borrow-prefix-link-cost
+    slice-aggregate-print-search-4
+    array-borrow-prefix-link-links
+    slice-aggregate-print-search-5
+    array-borrow-prefix-link-back
+    slice-aggregate-print-search-6
+    slice-aggregate-print-search-7
+    print-search-requires
+    same-length
+    returns)

@@ -1,0 +1,57 @@
+// The lines of a sheet: a refusal's number and place, or a route's cost and links.
+use super::decimals::put_byte;
+use super::decimals::put_decimal;
+ghost use mathlib.Core.Path.{_≡_};
+ghost use mathlib.Core.List.{[], _∷_, _++_};
+ghost use Prim.Native.Nat.{_+_, _≤_};
+ghost use lib.ListN.{length, drop};
+ghost use Rattle.sheet.specs.Line.{further, line};
+ghost use Rattle.sheet.specs.steps.Storing.{Stored};
+
+fn widened(n: u16) -> usize
+    ensures { λ r. ⌜ r ≡ n ⌝ }
+{
+    n as usize
+}
+
+// A field that is not the first, after its blank.
+fn put_field(text: &mut [u8], at: usize, n: usize) -> usize
+    requires { ⌜ at + length (further (n ∷ [])) ≤ length (now text) ⌝ }
+    ensures { λ r. ⌜ Stored (now (text .entry)) at (further (n ∷ [])) (now (text .exit)) r ⌝ }
+{
+    let next = put_byte(text, at, b' ');
+    put_decimal(text, next, n)
+}
+
+fn put_links(text: &mut [u8], at: usize, links: &[u16]) -> usize
+    requires { ⌜ at + length (further (now links)) ≤ length (now text) ⌝ }
+    ensures { λ r. ⌜ Stored (now (text .entry)) at (further (now (links .entry))) (now (text .exit)) r ⌝ }
+{
+    let mut next = at;
+    let mut k = 0;
+    while k < links.len() {
+        next = put_field(text, next, widened(links[k]));
+        k += 1;
+    }
+    next
+}
+
+pub fn put_refusal(text: &mut [u8], number: u8, place: usize) -> usize
+    requires { ⌜ length (line (number ∷ place ∷ [])) ≤ length (now text) ⌝ }
+    ensures { λ r. ⌜ (now (text .exit) ≡ line (number ∷ place ∷ []) ++ drop (length (line (number ∷ place ∷ []))) (now (text .entry))) × (r ≡ length (line (number ∷ place ∷ []))) ⌝ }
+{
+    let at = put_decimal(text, 0, number as usize);
+    let at = put_field(text, at, place);
+    put_byte(text, at, b'\n')
+}
+
+pub fn put_route(text: &mut [u8], cost: u32, links: &[u16]) -> usize
+    requires { ⌜ length (line (0 ∷ cost ∷ length (now links) ∷ now links)) ≤ length (now text) ⌝ }
+    ensures { λ r. ⌜ (now (text .exit) ≡ line (0 ∷ cost ∷ length (now (links .entry)) ∷ now (links .entry)) ++ drop (length (line (0 ∷ cost ∷ length (now (links .entry)) ∷ now (links .entry)))) (now (text .entry))) × (r ≡ length (line (0 ∷ cost ∷ length (now (links .entry)) ∷ now (links .entry)))) ⌝ }
+{
+    let at = put_decimal(text, 0, 0);
+    let at = put_field(text, at, cost as usize);
+    let at = put_field(text, at, links.len());
+    let at = put_links(text, at, links);
+    put_byte(text, at, b'\n')
+}

@@ -20,7 +20,7 @@ use Rattle.walk.proofs.Literal.{holds, shown}
 use Rattle.walk.proofs.CaseTests.{same-entry, entry-same}
 use Rattle.walk.proofs.ChosenLaws.{Limited, turn-bounded}
 use Rattle.walk.proofs.LabelLaws.{reading-none, local-true, local-links-true}
-use Rattle.search.specs.steps.Tables.{goesAhead, Sized}
+use Rattle.search.specs.steps.Tables.{standsAs, goesAhead, Sized}
 use Rattle.search.specs.steps.Starts.{startEntry, aloneEntry}
 use Rattle.search.specs.steps.Candidates.{turnLabel}
 use Rattle.search.specs.steps.Passing.{onwardTo}
@@ -62,7 +62,7 @@ says-below a b = (ltb-true a b, lt-ltb a b)
 says-equal : (a b : ℕ) → Says (eqb a b) (a ≡ b)
 says-equal a b = (eqb-true a b, eq-eqb a b)
 
-says-same : (e f : Entry) → Says (sameEntry e f) (e ≡ f)
+says-same : (e f : Entry) → Says (standsAs e f) (e ≡ f)
 says-same e f = (same-entry e f, λ h. subst (λ (x : Entry). sameEntry e x ≡ true) h (entry-same e))
 
 says-none : (e : Entry) → Says (isNone e) (e ≡ noEntry)

@@ -12,11 +12,10 @@ use Rattle.walk.specs.declared.Step.the-variants.{Barred, Seconds}
 use Rattle.walk.specs.View.{View}
 use Rattle.walk.specs.Walks.{between, allowed, seconds}
 use Rattle.walk.specs.Labels.{Entry, Table, entryAt}
-use Rattle.walk.specs.Counting.{sameEntry}
 use Rattle.walk.specs.steps.Pairs.{stepTo, secondsMore}
 use Rattle.walk.specs.steps.ViewNet.{isOpen, mayFollow}
 use Rattle.walk.proofs.OneMore.{stepped}
-use Rattle.search.specs.steps.Tables.{goesAhead}
+use Rattle.search.specs.steps.Tables.{standsAs, goesAhead}
 use Rattle.search.specs.steps.Candidates.{turnLabel}
 use Rattle.search.specs.steps.Passing.{onwardTo}
 use Rattle.search.specs.steps.Judging.{limited, overtakenBy, overtaken, steppedBy, backLeads, reachedStands, everyBelow}
@@ -45,10 +44,10 @@ module _ (U : View) (p t : ℕ) where
       by true = rw (add-one links)
       by false = refl
 
-  pub stepped-at : (before e : Entry) → e .back ≡ p → U .second p ≡ U .first t → steppedBy (stepTo U (between U p t) t) before e ≡ (mayFollow U p t && sameEntry e (onwardTo U p (before .cost) (before .links) t))
+  pub stepped-at : (before e : Entry) → e .back ≡ p → U .second p ≡ U .first t → steppedBy (stepTo U (between U p t) t) before e ≡ (mayFollow U p t && standsAs e (onwardTo U p (before .cost) (before .links) t))
   stepped-at before e same meets = rw (step-as U (between U p t) t, eq-eqb _ _ meets) (by goes)
     where
-      by : (may : Bool) → steppedBy (stepped may more) before e ≡ (may && sameEntry e (onwardTo U p (before .cost) (before .links) t))
+      by : (may : Bool) → steppedBy (stepped may more) before e ≡ (may && standsAs e (onwardTo U p (before .cost) (before .links) t))
       by true = rw (add-one (before .links), same)
       by false = refl
 
@@ -67,11 +66,11 @@ module _ (U : View) (turns : Table) (t : ℕ) (e before : Entry) (stands : Betwe
   pub leads-barred : step ≡ Barred → false ≡ backLeads U turns t e
   leads-barred barred = rw barred at by-step
 
-  pub leads-stepped : (more : ℕ) {answer : Bool} → step ≡ Seconds more → answer ≡ sameEntry e (record { cost = before .cost + more; links = before .links + 1; back = e .back }) → answer ≡ backLeads U turns t e
+  pub leads-stepped : (more : ℕ) {answer : Bool} → step ≡ Seconds more → answer ≡ standsAs e (record { cost = before .cost + more; links = before .links + 1; back = e .back }) → answer ≡ backLeads U turns t e
   leads-stepped more adds told = told ∙ (rw adds at by-step)
 
 -- the tests of a reached turn, where e is its entry
-pub reached-by : (U : View) (start : Entry) (turns links : Table) (t : ℕ) (e : Entry) → e ≡ entryAt turns t → {begun backed ended kept : Bool} → begun ≡ sameEntry e start → backed ≡ backLeads U turns t e
+pub reached-by : (U : View) (start : Entry) (turns links : Table) (t : ℕ) (e : Entry) → e ≡ entryAt turns t → {begun backed ended kept : Bool} → begun ≡ standsAs e start → backed ≡ backLeads U turns t e
     → ended ≡ not (goesAhead (turnLabel (turns .cost) (turns .links) t) (entryAt links (U .second t))) → kept ≡ everyBelow (λ v. not (overtaken U t (e .cost) (e .links) turns v)) (U .turns)
     → ((begun || backed) && (ended && kept)) ≡ reachedStands U start turns links t
 unfolding reachedStands

@@ -7,9 +7,8 @@ ghost use mathlib.Core.Path.{_≡_};
 ghost use Prim.Native.Nat.{_<_};
 ghost use lib.ListN.{length};
 ghost use Rattle.walk.specs.Labels.{entryAt};
-ghost use Rattle.walk.specs.Counting.{sameEntry};
 ghost use Rattle.walk.specs.steps.ViewNet.{isNone};
-ghost use Rattle.search.specs.steps.Tables.{three, asEntry, placed, goesAhead, offered};
+ghost use Rattle.search.specs.steps.Tables.{three, asEntry, standsAs, placed, goesAhead, offered};
 ghost use Rattle.search.specs.steps.Judging.{limited};
 
 pub fn label_at(cost: &[u32], links: &[u16], back: &[u16], at: usize) -> Label
@@ -53,7 +52,7 @@ pub fn offer(cost: &mut [u32], links: &mut [u16], back: &mut [u16], at: usize, l
 }
 
 pub fn same_label(one: Label, other: Label) -> bool
-    ensures { λ r. ⌜ r ≡ sameEntry (asEntry one) (asEntry other) ⌝ }
+    ensures { λ r. ⌜ r ≡ standsAs (asEntry one) (asEntry other) ⌝ }
 {
     (one.cost == other.cost) & ((one.links == other.links) & (one.back == other.back))
 }

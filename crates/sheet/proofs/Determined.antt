@@ -26,7 +26,7 @@ module _ (book : List ℕ) (r s : ℕ) where
   one-route counts h links other a b = route-one (viewOf book counts) (good-view book counts (walksOf book counts) (tests-passed book r s counts h)) r s links other a b
 
   -- one way through one book has one line
-  plan-one : (fields other : List ℕ) → Planned book r s fields → Planned book r s other → fields ≡ other
+  pub plan-one : (fields other : List ℕ) → Planned book r s fields → Planned book r s other → fields ≡ other
   plan-one fields other (refused found e f) (refused found′ e′ g) = cc
   plan-one fields other (refused found e f) (no-walk counts e′ none g) = clash (cc)
   plan-one fields other (refused found e f) (done counts e′ links route g) = clash (cc)

@@ -7,4 +7,5 @@ pub mod NeverFifteen
 pub mod Determined
 pub mod BookALine
 pub mod Plans
+pub mod OverLong
 pub mod Printed

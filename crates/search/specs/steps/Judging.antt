@@ -8,9 +8,8 @@ use Rattle.walk.specs.declared.Step.{Step}
 use Rattle.walk.specs.declared.Step.the-variants.{Barred, Seconds}
 use Rattle.walk.specs.View.{View}
 use Rattle.walk.specs.Labels.{Entry, Table, entryAt, noEntry}
-use Rattle.walk.specs.Counting.{sameEntry}
 use Rattle.walk.specs.steps.ViewNet.{mayFollow, isNone}
-use Rattle.search.specs.steps.Tables.{goesAhead}
+use Rattle.search.specs.steps.Tables.{standsAs, goesAhead}
 use Rattle.search.specs.steps.Starts.{startEntry, aloneEntry}
 use Rattle.search.specs.steps.Candidates.{turnLabel}
 use Rattle.search.specs.steps.Passing.{onwardTo}
@@ -36,19 +35,19 @@ overtaken U p cost links turns t = mayFollow U p t && goesAhead (onwardTo U p co
 -- the entry e of turn t is what the step of this kind from its back offers
 abbrev pub steppedBy : Step → Entry → Entry → Bool
 steppedBy Barred before e = false
-steppedBy (Seconds more) before e = sameEntry e (record { cost = before .cost + more; links = before .links + 1; back = e .back })
+steppedBy (Seconds more) before e = standsAs e (record { cost = before .cost + more; links = before .links + 1; back = e .back })
 
 -- the entry e of turn t is what its back offers
 unfoldable pub backLeads : View → Table → ℕ → Entry → Bool
 backLeads U turns t e =
     ltb (e .back) (U .turns)
     && (limited (entryAt turns (e .back))
-    && (mayFollow U (e .back) t && sameEntry e (onwardTo U (e .back) (entryAt turns (e .back) .cost) (entryAt turns (e .back) .links) t)))
+    && (mayFollow U (e .back) t && standsAs e (onwardTo U (e .back) (entryAt turns (e .back) .cost) (entryAt turns (e .back) .links) t)))
 
 -- the entry of a reached turn: where it comes from, and that it overtakes neither its link nor its followers
 unfoldable pub reachedStands : View → Entry → Table → Table → ℕ → Bool
 reachedStands U start turns links t =
-    (sameEntry (entryAt turns t) start || backLeads U turns t (entryAt turns t))
+    (standsAs (entryAt turns t) start || backLeads U turns t (entryAt turns t))
     && (not (goesAhead (turnLabel (turns .cost) (turns .links) t) (entryAt links (U .second t)))
     && everyBelow (λ v. not (overtaken U t (entryAt turns t .cost) (entryAt turns t .links) turns v)) (U .turns))
 
@@ -62,12 +61,12 @@ unfoldable pub endLeads : View → List ℕ → List ℕ → ℕ → Entry → B
 endLeads U cost links l e =
     ltb (e .back) (U .turns)
     && (not (eqb (getD cost (e .back) 0) (noEntry .cost))
-    && (eqb (U .second (e .back)) l && sameEntry e (turnLabel cost links (e .back))))
+    && (eqb (U .second (e .back)) l && standsAs e (turnLabel cost links (e .back))))
 
 unfoldable pub linkStands : View → ℕ → List ℕ → List ℕ → Table → ℕ → Bool
 linkStands U r cost links table l =
     not (goesAhead (aloneEntry U r l) (entryAt table l))
-    && (isNone (entryAt table l) || (sameEntry (entryAt table l) (aloneEntry U r l) || endLeads U cost links l (entryAt table l)))
+    && (isNone (entryAt table l) || (standsAs (entryAt table l) (aloneEntry U r l) || endLeads U cost links l (entryAt table l)))
 
 -- every turn, then every link
 unfoldable pub allStand : View → ℕ → Table → Table → Bool

@@ -7,6 +7,7 @@ use lib.Dec.{ltb, eqb}
 use lib.ListN.{length, set}
 use Rattle.walk.specs.View.{upTo}
 use Rattle.walk.specs.Labels.{Entry, Table, entryAt}
+use Rattle.walk.specs.Counting.{sameEntry}
 use Rattle.search.specs.declared.Label.{Label}
 
 abbrev pub three : List ℕ → List ℕ → List ℕ → Table
@@ -14,6 +15,10 @@ three cost links back = record { cost = cost; links = links; back = back }
 
 abbrev pub asEntry : Label → Entry
 asEntry label = record { cost = label .cost; links = label .links; back = label .back }
+
+-- an entry is this label, in every field
+abbrev pub standsAs : Entry → Entry → Bool
+standsAs e label = sameEntry e label
 
 abbrev pub placed : Table → ℕ → Entry → Table
 placed table k e = record { cost = set (table .cost) k (e .cost); links = set (table .links) k (e .links); back = set (table .back) k (e .back) }

@@ -1,0 +1,277 @@
+// One case: labels from a search, perhaps changed, a route asked with them, and the line about it.
+use super::changing::Change;
+use super::changing::LINK_BACK;
+use super::changing::LINK_COST;
+use super::changing::LINK_LINKS;
+use super::changing::TURN_BACK;
+use super::changing::TURN_COST;
+use super::changing::TURN_LINKS;
+use super::changing::change_table;
+use super::changing::lent;
+use super::saying::MARK;
+use super::saying::marks_kept;
+use super::saying::mixture_of_table;
+use super::saying::say_kept;
+use super::saying::say_route;
+use book::NodeNumber;
+use cases::say_expected;
+use cases::say_expected_refusal;
+use cases::say_name;
+use search::RouteFigures;
+use search::route;
+use search::route_given_back;
+use search::search;
+ghost use Prim.Native.Nat.{_≤_};
+ghost use lib.ListN.{length};
+
+// One more than the most turns and links of a book here.
+const ROOM: usize = 17;
+
+// Answered in place of a number where something changed that should not.
+const CHANGED: u64 = 255;
+
+// From where, to where, how many numbers the route buffer has, and whether the answer is said.
+pub struct Asked {
+    pub origin: u16,
+    pub destination: u16,
+    pub room: usize,
+    pub aloud: bool,
+}
+
+pub fn from_to(origin: u16, destination: u16, room: usize) -> Asked {
+    Asked {
+        origin,
+        destination,
+        room,
+        aloud: true,
+    }
+}
+
+fn say_answer(figures: RouteFigures, kept: bool, links: &[u16]) {
+    say_route(figures, links);
+    say_kept(figures.number == 0, kept);
+}
+
+fn ask_in(
+    book: &[u8],
+    asked: Asked,
+    turn_cost: &[u32],
+    turn_links: &[u16],
+    turn_back: &[u16],
+    link_cost: &[u32],
+    link_links: &[u16],
+    link_back: &[u16],
+    links: &mut [u16],
+) -> u64 {
+    let turns_before = mixture_of_table(turn_cost, turn_links, turn_back);
+    let links_before = mixture_of_table(link_cost, link_links, link_back);
+    let figures = route_given_back(route(
+        book,
+        NodeNumber(asked.origin),
+        NodeNumber(asked.destination),
+        turn_cost,
+        turn_links,
+        turn_back,
+        link_cost,
+        link_links,
+        link_back,
+        links,
+    ));
+    let kept = (turns_before == mixture_of_table(turn_cost, turn_links, turn_back))
+        & (links_before == mixture_of_table(link_cost, link_links, link_back))
+        & marks_kept(links, figures.links as usize);
+    if asked.aloud {
+        say_answer(figures, kept, links);
+    }
+    if kept {
+        return figures.number as u64;
+    }
+    CHANGED
+}
+
+fn within(length: usize) -> usize
+    ensures { λ r. ⌜ r ≤ 17 ⌝ }
+{
+    if ROOM < length {
+        return ROOM;
+    }
+    length
+}
+
+// The same with a route buffer of its own.
+fn ask_marked(
+    book: &[u8],
+    asked: Asked,
+    turn_cost: &[u32],
+    turn_links: &[u16],
+    turn_back: &[u16],
+    link_cost: &[u32],
+    link_links: &[u16],
+    link_back: &[u16],
+) -> u64 {
+    let mut links = [MARK; ROOM];
+    let room = within(asked.room);
+    ask_in(
+        book,
+        asked,
+        turn_cost,
+        turn_links,
+        turn_back,
+        link_cost,
+        link_links,
+        link_back,
+        &mut links[..room],
+    )
+}
+
+// The same with as many numbers of each label buffer as the change says.
+fn ask_lent(
+    book: &[u8],
+    asked: Asked,
+    change: Change,
+    turns: usize,
+    links: usize,
+    turn_cost: &[u32],
+    turn_links: &[u16],
+    turn_back: &[u16],
+    link_cost: &[u32],
+    link_links: &[u16],
+    link_back: &[u16],
+) -> u64 {
+    let turn_costs = lent(change, TURN_COST, turns, turn_cost.len());
+    let turn_counts = lent(change, TURN_LINKS, turns, turn_links.len());
+    let turn_backs = lent(change, TURN_BACK, turns, turn_back.len());
+    let link_costs = lent(change, LINK_COST, links, link_cost.len());
+    let link_counts = lent(change, LINK_LINKS, links, link_links.len());
+    let link_backs = lent(change, LINK_BACK, links, link_back.len());
+    ask_marked(
+        book,
+        asked,
+        &turn_cost[..turn_costs],
+        &turn_links[..turn_counts],
+        &turn_back[..turn_backs],
+        &link_cost[..link_costs],
+        &link_links[..link_counts],
+        &link_back[..link_backs],
+    )
+}
+
+// A search in the first numbers of each buffer.
+fn search_front(
+    book: &[u8],
+    start: u16,
+    turns: usize,
+    links: usize,
+    turn_cost: &mut [u32],
+    turn_links: &mut [u16],
+    turn_back: &mut [u16],
+    link_cost: &mut [u32],
+    link_links: &mut [u16],
+    link_back: &mut [u16],
+)
+    requires { ⌜ (turns ≤ length (now «turn_cost»)) × (turns ≤ length (now «turn_links»)) × (turns ≤ length (now «turn_back»)) ⌝ }
+    requires { ⌜ (links ≤ length (now «link_cost»)) × (links ≤ length (now «link_links»)) × (links ≤ length (now «link_back»)) ⌝ }
+{
+    search(
+        book,
+        NodeNumber(start),
+        &mut turn_cost[..turns],
+        &mut turn_links[..turns],
+        &mut turn_back[..turns],
+        &mut link_cost[..links],
+        &mut link_links[..links],
+        &mut link_back[..links],
+    );
+}
+
+fn widened(byte: u8) -> usize {
+    byte as usize
+}
+
+// A count of a book's header, up to 16.
+fn count_at(book: &[u8], at: usize) -> usize
+    ensures { λ r. ⌜ r ≤ 16 ⌝ }
+{
+    if book.len() <= at {
+        return 0;
+    }
+    let count = widened(book[at]);
+    if 16 < count {
+        return 16;
+    }
+    count
+}
+
+// Asks of `book` with the labels that `labelled` has from `start`, changed; answers the number.
+pub fn ask(labelled: &[u8], start: u16, change: Change, book: &[u8], asked: Asked) -> u64 {
+    let mut turn_cost = [0u32; ROOM];
+    let mut turn_links = [0u16; ROOM];
+    let mut turn_back = [0u16; ROOM];
+    let mut link_cost = [0u32; ROOM];
+    let mut link_links = [0u16; ROOM];
+    let mut link_back = [0u16; ROOM];
+    let links = count_at(labelled, 9);
+    let turns = count_at(labelled, 11);
+    search_front(
+        labelled,
+        start,
+        turns,
+        links,
+        &mut turn_cost,
+        &mut turn_links,
+        &mut turn_back,
+        &mut link_cost,
+        &mut link_links,
+        &mut link_back,
+    );
+    change_table(
+        change,
+        TURN_COST,
+        &mut turn_cost,
+        &mut turn_links,
+        &mut turn_back,
+    );
+    change_table(
+        change,
+        LINK_COST,
+        &mut link_cost,
+        &mut link_links,
+        &mut link_back,
+    );
+    ask_lent(
+        book,
+        asked,
+        change,
+        turns,
+        links,
+        &turn_cost,
+        &turn_links,
+        &turn_back,
+        &link_cost,
+        &link_links,
+        &link_back,
+    )
+}
+
+// A route with the book's own labels.
+pub fn run(name: &[u8], book: &[u8], asked: Asked, expected: &[u8]) {
+    say_name(name);
+    ask(book, asked.origin, Change::Nothing, book, asked);
+    say_expected(expected);
+}
+
+// A refusal, whatever the labels.
+pub fn refuse(
+    name: &[u8],
+    labelled: &[u8],
+    start: u16,
+    change: Change,
+    book: &[u8],
+    asked: Asked,
+    number: u64,
+    place: u64,
+) {
+    say_name(name);
+    ask(labelled, start, change, book, asked);
+    say_expected_refusal(number, place);
+}

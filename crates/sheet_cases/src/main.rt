@@ -1,0 +1,15 @@
+// Sheets of book A, of books that are refused, of inputs that are too short or too long, and of books in files.
+mod files;
+mod inputs;
+mod refusals;
+mod running;
+
+use files::books;
+use inputs::inputs;
+use refusals::refused;
+
+fn main() {
+    inputs();
+    refused();
+    books();
+}

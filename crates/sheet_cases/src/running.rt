@@ -1,0 +1,85 @@
+// One case: an input, the sheet of it, and what is left of the text beside the line.
+use cases::put;
+use cases::put_book_a;
+use cases::say;
+use cases::say_expected;
+use cases::say_name;
+use sheet::Sheeted;
+use sheet::sheet;
+
+// The longest line.
+const LONGEST: usize = 20502;
+
+// What every byte of the text holds beforehand.
+pub const MARK: u8 = b'#';
+
+// Origin, destination and book A.
+pub const INPUT_BYTES: usize = 101;
+
+// Whether the text keeps its marks from this place on.
+fn marks_kept(text: &[u8], from: usize) -> bool {
+    let mut kept = true;
+    let mut at = from;
+    'marks: while at < text.len() {
+        kept = kept & (text[at] == MARK);
+        at += 1;
+    }
+    kept
+}
+
+fn say_kept(text: &[u8], from: usize) {
+    if marks_kept(text, from) {
+        say(b"rest of the text kept");
+        return;
+    }
+    say(b"rest of the text changed");
+}
+
+fn say_front(text: &[u8], end: usize) {
+    if end <= text.len() {
+        say(&text[..end]);
+    }
+}
+
+// The case and what document 01 says, then the sheet's own line.
+pub fn run_in(name: &[u8], input: &[u8], text: &mut [u8], expected: &[u8]) {
+    say_name(name);
+    match sheet(input, text) {
+        Sheeted::NoRoom => {
+            say(b"no room, ");
+            say_kept(text, 0);
+            say_expected(expected);
+        }
+        Sheeted::Line(end) => {
+            say_kept(text, end);
+            say_expected(expected);
+            say_front(text, end);
+        }
+    }
+}
+
+pub fn run(name: &[u8], input: &[u8], expected: &[u8]) {
+    let mut text = [MARK; LONGEST];
+    run_in(name, input, &mut text, expected);
+}
+
+// The first bytes of an input.
+pub fn run_front(name: &[u8], input: &[u8], length: usize, expected: &[u8]) {
+    if length <= input.len() {
+        run(name, &input[..length], expected);
+    }
+}
+
+pub fn put_nodes(input: &mut [u8], origin: u16, destination: u16) {
+    put(input, 0, origin);
+    put(input, 2, destination);
+}
+
+pub fn input_a(origin: u16, destination: u16) -> [u8; INPUT_BYTES] {
+    let mut input = [0u8; INPUT_BYTES];
+    put_nodes(&mut input, origin, destination);
+    let from = 4;
+    let end = INPUT_BYTES;
+    put_book_a(&mut input[from..end]);
+    input
+}

@@ -17,7 +17,7 @@ use Rattle.walk.proofs.theory.Laws.{clash}
 use Rattle.walk.proofs.GoodView.{GoodView}
 use Rattle.walk.proofs.Growth.{and-true}
 use Rattle.walk.proofs.Literal.{holds, shown}
-use Rattle.walk.proofs.CaseTests.{same-entry, entry-same}
+use Rattle.walk.proofs.CaseTests.{entry-same}
 use Rattle.walk.proofs.ChosenLaws.{Limited, turn-bounded}
 use Rattle.walk.proofs.LabelLaws.{reading-none, local-true, local-links-true}
 use Rattle.search.specs.steps.Tables.{standsAs, goesAhead, Sized}
@@ -29,6 +29,7 @@ use Rattle.search.proofs.EveryBelow.{every-at, every-holds}
 use Rattle.search.proofs.Overtaking.{limits}
 use Rattle.search.proofs.Underway.{backOf, reading-labelled, step-most}
 use Rattle.search.proofs.JudgedLeast.{Ranked, Regular, NoneAhead, Supported, tests-least, least-tests, start-behind, start-supports}
+use Rattle.search.proofs.LabelOrder.{stands-equal}
 
 -- ---- what a test says
 
@@ -63,7 +64,7 @@ says-equal : (a b : ℕ) → Says (eqb a b) (a ≡ b)
 says-equal a b = (eqb-true a b, eq-eqb a b)
 
 says-same : (e f : Entry) → Says (standsAs e f) (e ≡ f)
-says-same e f = (same-entry e f, λ h. subst (λ (x : Entry). sameEntry e x ≡ true) h (entry-same e))
+says-same e f = (stands-equal e f, λ h. subst (λ (x : Entry). sameEntry e x ≡ true) h (entry-same e))
 
 says-none : (e : Entry) → Says (isNone e) (e ≡ noEntry)
 unfolding isNone sameEntry

@@ -1,4 +1,4 @@
--- Labels go by cost, links, back: the test of this order says it, and the order is strict.
+-- Labels are the same by every field and go by cost, links, back: the tests of this say it, and the order is strict.
 use Prim.Native.Nat.{ℕ, _<_}
 use mathlib.Core.Path.{_≡_, refl, sym, ap, subst, _∙_}
 use mathlib.Core.Logic.{_⊎_, inl, inr}
@@ -9,8 +9,13 @@ use borrow.Author.Tests.{ltb-true, lt-ltb, le-ltb, eqb-true, eq-eqb}
 use Rattle.walk.specs.Labels.{Key, Less, Entry}
 use Rattle.walk.proofs.theory.Laws.{Compared, clash}
 use Rattle.walk.proofs.TrueEntries.{same-key}
+use Rattle.walk.proofs.CaseTests.{same-entry}
 use Rattle.walk.proofs.KeyLaws.{less-irrefl, less-trans, less-tri}
-use Rattle.search.specs.steps.Tables.{goesAhead}
+use Rattle.search.specs.steps.Tables.{standsAs, goesAhead}
+
+-- an entry that stands as a label is equal to it
+pub stands-equal : (e label : Entry) → standsAs e label ≡ true → e ≡ label
+stands-equal e label h = same-entry e label h
 
 equal-not-less : (a b : ℕ) → a ≡ b → ltb a b ≡ false
 equal-not-less a b e = le-ltb a b (omega arith)

@@ -1,5 +1,6 @@
 // The judge: whether every entry of lent labels is the true one, by tests of each turn with its followers and of each link.
 use super::Label;
+use super::figures::MOST_TURNS;
 use super::figures::UNREACHED;
 use super::labels::goes_ahead;
 use super::labels::is_none;
@@ -19,6 +20,7 @@ use walk::between_turns;
 use walk::followers;
 use walk::pair_from;
 use walk::pairs_of;
+use walk::read_walks;
 use walk::step_to;
 use walk::turn_first;
 use walk::turn_second;
@@ -405,7 +407,7 @@ fn links_stand(
 }
 
 // Whether every entry is the true one: one pass over turns, their followers and links, which reads only.
-pub fn judge(
+fn judge(
     book: &[u8],
     counts: Counts,
     walks: &[u16],
@@ -443,4 +445,37 @@ pub fn judge(
             link_links,
             link_back,
         )
+}
+
+// Test 13: the judge, with the book's own walks.
+pub fn labels_true(
+    book: &[u8],
+    counts: Counts,
+    origin: NodeNumber,
+    turn_cost: &[u32],
+    turn_links: &[u16],
+    turn_back: &[u16],
+    link_cost: &[u32],
+    link_links: &[u16],
+    link_back: &[u16],
+) -> bool
+    requires { ⌜ checkOf (now book) ≡ Good counts ⌝ }
+    requires { ⌜ (Sized (counts .turns) (three (now «turn_cost») (now «turn_links») (now «turn_back»))) × (Sized (counts .links) (three (now «link_cost») (now «link_links») (now «link_back»))) ⌝ }
+    ensures { λ r. ⌜ Tells r (TrueLabels (viewOf (now (book .entry)) counts) (origin .0) (three (now («turn_cost» .entry)) (now («turn_links» .entry)) (now («turn_back» .entry))) (three (now («link_cost» .entry)) (now («link_links» .entry)) (now («link_back» .entry)))) ⌝ }
+{
+    let turns = counts.turns;
+    let mut walks = [0u16; MOST_TURNS];
+    read_walks(book, counts, &mut walks[..turns]);
+    judge(
+        book,
+        counts,
+        &walks[..turns],
+        origin,
+        turn_cost,
+        turn_links,
+        turn_back,
+        link_cost,
+        link_links,
+        link_back,
+    )
 }

@@ -17,11 +17,18 @@ mod starts;
 mod tests;
 mod tracing;
 
+pub use judging::labels_true;
+pub use labels::label_at;
+pub use labels::same_label;
 pub use offered::check;
+pub use offered::seconds_good;
+pub use offered::write_walk;
 pub use routing::route;
 pub use routing::route_given_back;
 pub use searching::given_back;
 pub use searching::search;
+pub use tests::length_test;
+pub use tests::node_test;
 
 // Cost, number of links and back of one entry.
 pub struct Label {

@@ -2,9 +2,8 @@
 use super::RouteFigures;
 use super::Routed;
 use super::arriving::best_into;
-use super::figures::MOST_TURNS;
 use super::figures::UNREACHED;
-use super::judging::judge;
+use super::judging::labels_true;
 use super::tests::length_test;
 use super::tests::node_test;
 use super::tracing::trace;
@@ -14,49 +13,11 @@ use book::LinkNumber;
 use book::NodeNumber;
 use book::Refusal;
 use walk::check;
-use walk::read_walks;
 ghost use mathlib.Core.Path.{_≡_};
-ghost use Rattle.book.specs.declared.Checked.the-variants.{Good};
-ghost use Rattle.book.specs.Check.{checkOf};
 ghost use Rattle.walk.specs.View.{viewOf};
-ghost use Rattle.walk.specs.Labels.{TrueLabels};
 ghost use Rattle.search.specs.Route.{routeGivenBack, RouteOnward, Routing};
-ghost use Rattle.search.specs.steps.Tables.{three, Sized};
-ghost use Rattle.search.specs.steps.Judging.{Tells};
+ghost use Rattle.search.specs.steps.Tables.{three};
 ghost use Rattle.search.specs.steps.Routes.{RouteFrom};
-
-// Test 13, with the book's own walks.
-fn labels_true(
-    book: &[u8],
-    counts: Counts,
-    origin: NodeNumber,
-    turn_cost: &[u32],
-    turn_links: &[u16],
-    turn_back: &[u16],
-    link_cost: &[u32],
-    link_links: &[u16],
-    link_back: &[u16],
-) -> bool
-    requires { ⌜ checkOf (now book) ≡ Good counts ⌝ }
-    requires { ⌜ (Sized (counts .turns) (three (now «turn_cost») (now «turn_links») (now «turn_back»))) × (Sized (counts .links) (three (now «link_cost») (now «link_links») (now «link_back»))) ⌝ }
-    ensures { λ r. ⌜ Tells r (TrueLabels (viewOf (now (book .entry)) counts) (origin .0) (three (now («turn_cost» .entry)) (now («turn_links» .entry)) (now («turn_back» .entry))) (three (now («link_cost» .entry)) (now («link_links» .entry)) (now («link_back» .entry)))) ⌝ }
-{
-    let turns = counts.turns;
-    let mut walks = [0u16; MOST_TURNS];
-    read_walks(book, counts, &mut walks[..turns]);
-    judge(
-        book,
-        counts,
-        &walks[..turns],
-        origin,
-        turn_cost,
-        turn_links,
-        turn_back,
-        link_cost,
-        link_links,
-        link_back,
-    )
-}
 
 // Tests 14 and 15 over true labels, and the walk.
 fn route_onward(

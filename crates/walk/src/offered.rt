@@ -8,8 +8,9 @@ ghost use mathlib.Core.Path.{_≡_};
 ghost use Prim.Native.Nat.{_<_};
 ghost use Rattle.book.specs.declared.Checked.the-variants.{Good};
 ghost use Rattle.book.specs.Tables.{linkTable, turnTable};
-ghost use Rattle.book.specs.Entries.{linkFrom, linkTo, turnFirst, turnSecond};
+ghost use Rattle.book.specs.Entries.{linkFrom, linkTo, turnFirst, turnSecond, secondsGood};
 ghost use Rattle.book.specs.Check.{checkOf};
+ghost use Rattle.book.specs.Walk.{withWalk};
 
 pub fn check(book: &[u8]) -> Checked
     ensures { λ r. ⌜ r ≡ checkOf (now (book .entry)) ⌝ }
@@ -43,4 +44,17 @@ pub fn turn_second(book: &[u8], counts: Counts, turn: TurnNumber) -> LinkNumber
     ensures { λ r. ⌜ r .0 ≡ turnSecond (turnTable (now (book .entry)) counts) (turn .0) ⌝ }
 {
     book::turn_second(book, counts, turn)
+}
+
+pub fn seconds_good(seconds: u16) -> bool
+    ensures { λ r. ⌜ r ≡ secondsGood seconds ⌝ }
+{
+    book::seconds_good(seconds)
+}
+
+pub fn write_walk(book: &mut [u8], counts: Counts, turn: TurnNumber, walk: u16)
+    requires { ⌜ (checkOf (now book) ≡ Good counts) × (turn .0 < counts .turns) ⌝ }
+    ensures { λ _. ⌜ now (book .exit) ≡ withWalk (now (book .entry)) counts (turn .0) walk ⌝ }
+{
+    book::write_walk(book, counts, turn, walk)
 }

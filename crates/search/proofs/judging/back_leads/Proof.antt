@@ -11,15 +11,6 @@ use Rattle.search.proofs.Overtaking.{limits, leads-barred, leads-steppe
 use borrow.Author.Needs.{needs}
 use Rattle.search.proofs.judging.back_leads.Statement.{statement}
 use Rattle.search.proofs.judging.back_leads.Tie as tie
-use Rattle.search.proofs.judging.back_leads.Reads as reads
-use Rattle.search.proofs.judging.back_leads.Lts as lts
-use Rattle.search.proofs.labels.label_at.Reads as label-at-reads
-use Rattle.search.proofs.labels.limited.Reads as limited-reads
-use Rattle.search.proofs.labels.same_label.Reads as same-label-reads
-use Rattle.walk.proofs.turn_first.Reads as turn-first-reads
-use Rattle.walk.proofs.turn_second.Reads as turn-second-reads
-use Rattle.walk.proofs.between_turns.Reads as between-turns-reads
-use Rattle.walk.proofs.step_to.Reads as step-to-reads
 
 cast-if1 : tie.Need-cast-if1
 cast-if1 c = search needs

@@ -4,11 +4,6 @@ use Rattle.search.specs.steps.Judging.{endLeads}
 use borrow.Author.Needs.{needs}
 use Rattle.search.proofs.judging.end_leads.Statement.{statement}
 use Rattle.search.proofs.judging.end_leads.Tie as tie
-use Rattle.search.proofs.judging.end_leads.Reads as reads
-use Rattle.search.proofs.judging.end_leads.Lts as lts
-use Rattle.search.proofs.labels.same_label.Reads as same-label-reads
-use Rattle.search.proofs.picking.turn_label.Reads as turn-label-reads
-use Rattle.walk.proofs.turn_second.Reads as turn-second-reads
 
 cast-if1 : tie.Need-cast-if1
 cast-if1 c = search needs

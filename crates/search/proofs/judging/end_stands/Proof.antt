@@ -5,12 +5,6 @@ use Rattle.book.proofs.GoodBook.{good-book}
 use borrow.Author.Needs.{needs}
 use Rattle.search.proofs.judging.end_stands.Statement.{statement}
 use Rattle.search.proofs.judging.end_stands.Tie as tie
-use Rattle.search.proofs.judging.end_stands.Reads as reads
-use Rattle.search.proofs.judging.end_stands.Lts as lts
-use Rattle.search.proofs.labels.goes_ahead.Reads as goes-ahead-reads
-use Rattle.search.proofs.labels.label_at.Reads as label-at-reads
-use Rattle.search.proofs.picking.turn_label.Reads as turn-label-reads
-use Rattle.walk.proofs.turn_second.Reads as turn-second-reads
 
 turn-second-requires : tie.Need-turn-second-requires
 turn-second-requires c κs = search needs

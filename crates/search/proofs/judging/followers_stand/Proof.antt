@@ -8,13 +8,6 @@ use Rattle.search.proofs.NoneOvertaken.{NoneOvertaken, none-yet, none-n
 use borrow.Author.Needs.{needs}
 use Rattle.search.proofs.judging.followers_stand.Statement.{statement}
 use Rattle.search.proofs.judging.followers_stand.Tie as tie
-use Rattle.search.proofs.judging.followers_stand.Reads as reads
-use Rattle.search.proofs.judging.followers_stand.Lts as lts
-use Rattle.search.proofs.judging.is_overtaken.Reads as is-overtaken-reads
-use Rattle.walk.proofs.turn_second.Reads as turn-second-reads
-use Rattle.walk.proofs.pair_from.Reads as pair-from-reads
-use Rattle.walk.proofs.pairs_of.Reads as pairs-of-reads
-use Rattle.walk.proofs.followers.Reads as followers-reads
 
 abbrev Inv-turns : tie.InvT-turns
 Inv-turns book counts walks before label cost links back end to at₀ turn₀ at turn = NoneOvertaken book counts walks (before .0) (label .cost) (label .links) (three cost links back) turn₀ end at₀ to at turn

@@ -7,12 +7,6 @@ use Rattle.search.proofs.Overtaking.{limits}
 use borrow.Author.Needs.{needs}
 use Rattle.search.proofs.judging.is_overtaken.Statement.{statement}
 use Rattle.search.proofs.judging.is_overtaken.Tie as tie
-use Rattle.search.proofs.judging.is_overtaken.Reads as reads
-use Rattle.search.proofs.judging.is_overtaken.Lts as lts
-use Rattle.search.proofs.labels.goes_ahead.Reads as goes-ahead-reads
-use Rattle.search.proofs.labels.label_at.Reads as label-at-reads
-use Rattle.walk.proofs.between_at.Reads as between-at-reads
-use Rattle.walk.proofs.step_to.Reads as step-to-reads
 
 between-at-requires : tie.Need-between-at-requires
 between-at-requires c κs = search needs

@@ -6,10 +6,6 @@ use Rattle.search.proofs.RouteLaws.{book-judged}
 use borrow.Author.Needs.{needs}
 use Rattle.search.proofs.judging.judge.Statement.{statement}
 use Rattle.search.proofs.judging.judge.Tie as tie
-use Rattle.search.proofs.judging.judge.Reads as reads
-use Rattle.search.proofs.judging.judge.Lts as lts
-use Rattle.search.proofs.judging.links_stand.Reads as links-stand-reads
-use Rattle.search.proofs.judging.turns_stand.Reads as turns-stand-reads
 
 turns-stand-requires : tie.Need-turns-stand-requires
 turns-stand-requires c κs = ((c .before .before .before .before .before .before .before .before .pre .0 .0, ap length (c .before .before .before .before .before .before .before .before .pre .0 .1) ∙ up-to-length _ _), c .before .before .before .before .before .before .before .before .pre .1)

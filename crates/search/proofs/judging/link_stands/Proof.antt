@@ -4,14 +4,6 @@ use Rattle.search.specs.steps.Judging.{linkStands}
 use borrow.Author.Needs.{needs}
 use Rattle.search.proofs.judging.link_stands.Statement.{statement}
 use Rattle.search.proofs.judging.link_stands.Tie as tie
-use Rattle.search.proofs.judging.link_stands.Reads as reads
-use Rattle.search.proofs.judging.link_stands.Lts as lts
-use Rattle.search.proofs.judging.end_leads.Reads as end-leads-reads
-use Rattle.search.proofs.labels.goes_ahead.Reads as goes-ahead-reads
-use Rattle.search.proofs.labels.is_none.Reads as is-none-reads
-use Rattle.search.proofs.labels.label_at.Reads as label-at-reads
-use Rattle.search.proofs.labels.same_label.Reads as same-label-reads
-use Rattle.search.proofs.starts.alone.Reads as alone-reads
 
 cast-label-at : tie.Need-cast-label-at
 cast-label-at c = search needs

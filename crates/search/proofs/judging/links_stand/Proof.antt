@@ -9,9 +9,6 @@ use Rattle.search.proofs.EveryBelow.{Passed, none-passed, one-more-pass
 use borrow.Author.Needs.{needs}
 use Rattle.search.proofs.judging.links_stand.Statement.{statement}
 use Rattle.search.proofs.judging.links_stand.Tie as tie
-use Rattle.search.proofs.judging.links_stand.Reads as reads
-use Rattle.search.proofs.judging.links_stand.Lts as lts
-use Rattle.search.proofs.judging.link_stands.Reads as link-stands-reads
 
 abbrev Inv-links : tie.InvT-links
 Inv-links book counts origin turn-cost turn-links cost links back count link₀ link = Passed (linkStands (viewOf book counts) (origin .0) turn-cost turn-links (three cost links back)) (counts .links) link

@@ -3,12 +3,6 @@ use Rattle.search.proofs.Overtaking.{reached-by}
 use borrow.Author.Needs.{needs}
 use Rattle.search.proofs.judging.reached_stands.Statement.{statement}
 use Rattle.search.proofs.judging.reached_stands.Tie as tie
-use Rattle.search.proofs.judging.reached_stands.Reads as reads
-use Rattle.search.proofs.judging.reached_stands.Lts as lts
-use Rattle.search.proofs.judging.back_leads.Reads as back-leads-reads
-use Rattle.search.proofs.judging.end_stands.Reads as end-stands-reads
-use Rattle.search.proofs.judging.followers_stand.Reads as followers-stand-reads
-use Rattle.search.proofs.labels.same_label.Reads as same-label-reads
 
 same-label-requires : tie.Need-same-label-requires
 same-label-requires c κs = search needs

@@ -5,14 +5,6 @@ use Rattle.search.specs.steps.Judging.{turnStands}
 use borrow.Author.Needs.{needs}
 use Rattle.search.proofs.judging.turn_stands.Statement.{statement}
 use Rattle.search.proofs.judging.turn_stands.Tie as tie
-use Rattle.search.proofs.judging.turn_stands.Reads as reads
-use Rattle.search.proofs.judging.turn_stands.Lts as lts
-use Rattle.search.proofs.judging.reached_stands.Reads as reached-stands-reads
-use Rattle.search.proofs.labels.goes_ahead.Reads as goes-ahead-reads
-use Rattle.search.proofs.labels.is_none.Reads as is-none-reads
-use Rattle.search.proofs.labels.label_at.Reads as label-at-reads
-use Rattle.search.proofs.labels.limited.Reads as limited-reads
-use Rattle.search.proofs.starts.start_of.Reads as start-of-reads
 
 cast-label-at : tie.Need-cast-label-at
 cast-label-at c = search needs

@@ -9,9 +9,6 @@ use Rattle.search.specs.steps.Judging.{turnStands}
 use Rattle.search.proofs.EveryBelow.{Passed, none-passed, one-more-passed, all-passed, one-failed}
 use Rattle.search.proofs.judging.turns_stand.Statement.{statement}
 use Rattle.search.proofs.judging.turns_stand.Tie as tie
-use Rattle.search.proofs.judging.turns_stand.Reads as reads
-use Rattle.search.proofs.judging.turns_stand.Lts as lts
-use Rattle.search.proofs.judging.turn_stands.Reads as turn-stands-reads
 
 abbrev Inv-turns : tie.InvT-turns
 Inv-turns book counts walks origin turn-cost turn-links turn-back link-cost link-links link-back turns turn₀ turn =

@@ -4,9 +4,6 @@ use Rattle.walk.specs.Counting.{sameEntry}
 use borrow.Author.Needs.{needs}
 use Rattle.search.proofs.labels.is_none.Statement.{statement}
 use Rattle.search.proofs.labels.is_none.Tie as tie
-use Rattle.search.proofs.labels.is_none.Reads as reads
-use Rattle.search.proofs.labels.is_none.Lts as lts
-use Rattle.search.proofs.labels.same_label.Reads as same-label-reads
 
 same-label-requires : tie.Need-same-label-requires
 same-label-requires c κs = search needs

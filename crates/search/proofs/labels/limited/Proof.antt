@@ -3,8 +3,6 @@ use Rattle.search.specs.steps.Judging.{limited}
 use mathlib.Core.Path.{refl}
 use Rattle.search.proofs.labels.limited.Statement.{statement}
 use Rattle.search.proofs.labels.limited.Tie as tie
-use Rattle.search.proofs.labels.limited.Reads as reads
-use Rattle.search.proofs.labels.limited.Lts as lts
 
 returns : tie.Need-returns
 unfolding limited

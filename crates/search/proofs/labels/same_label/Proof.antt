@@ -3,8 +3,6 @@ use Rattle.walk.specs.Counting.{sameEntry}
 use mathlib.Core.Path.{refl}
 use Rattle.search.proofs.labels.same_label.Statement.{statement}
 use Rattle.search.proofs.labels.same_label.Tie as tie
-use Rattle.search.proofs.labels.same_label.Reads as reads
-use Rattle.search.proofs.labels.same_label.Lts as lts
 
 returns : tie.Need-returns
 unfolding sameEntry

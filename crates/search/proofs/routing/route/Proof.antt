@@ -8,13 +8,6 @@ use Rattle.search.proofs.RouteLaws.{not-so, so}
 use borrow.Author.Needs.{needs}
 use Rattle.search.proofs.routing.route.Statement.{statement}
 use Rattle.search.proofs.routing.route.Tie as tie
-use Rattle.search.proofs.routing.route.Reads as reads
-use Rattle.search.proofs.routing.route.Lts as lts
-use Rattle.search.proofs.routing.labels_true.Reads as labels-true-reads
-use Rattle.search.proofs.routing.route_onward.Reads as route-onward-reads
-use Rattle.search.proofs.tests.length_test.Reads as length-test-reads
-use Rattle.search.proofs.tests.node_test.Reads as node-test-reads
-use Rattle.walk.proofs.check.Reads as check-reads
 
 check-requires : tie.Need-check-requires
 check-requires c κs = search needs

@@ -2,8 +2,6 @@
 use borrow.Author.Needs.{needs}
 use Rattle.search.proofs.routing.route_given_back.Statement.{statement}
 use Rattle.search.proofs.routing.route_given_back.Tie as tie
-use Rattle.search.proofs.routing.route_given_back.Reads as reads
-use Rattle.search.proofs.routing.route_given_back.Lts as lts
 
 enum-known-answer : tie.Need-enum-known-answer
 enum-known-answer c = search needs

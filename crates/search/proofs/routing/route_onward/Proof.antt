@@ -6,10 +6,6 @@ use Rattle.search.proofs.RouteLaws.{stays-here, none-leads, too-long, t
 use borrow.Author.Needs.{needs}
 use Rattle.search.proofs.routing.route_onward.Statement.{statement}
 use Rattle.search.proofs.routing.route_onward.Tie as tie
-use Rattle.search.proofs.routing.route_onward.Reads as reads
-use Rattle.search.proofs.routing.route_onward.Lts as lts
-use Rattle.search.proofs.arriving.best_into.Reads as best-into-reads
-use Rattle.search.proofs.tracing.trace.Reads as trace-reads
 
 returns : tie.Need-returns
 returns c = stays-here _ _ _ (c .if1 .taken) _

@@ -5,12 +5,6 @@ use Rattle.search.specs.Search.{refused, done}
 use Rattle.search.proofs.Tested.{search-tested, search-passed}
 use Rattle.search.proofs.searching.search.Statement.{statement}
 use Rattle.search.proofs.searching.search.Tie as tie
-use Rattle.search.proofs.searching.search.Reads as reads
-use Rattle.search.proofs.searching.search.Lts as lts
-use Rattle.search.proofs.searching.label_all.Reads as label-all-reads
-use Rattle.search.proofs.tests.length_test.Reads as length-test-reads
-use Rattle.search.proofs.tests.node_test.Reads as node-test-reads
-use Rattle.walk.proofs.check.Reads as check-reads
 
 check-requires : tie.Need-check-requires
 check-requires c κs = search needs

@@ -6,9 +6,6 @@ use Rattle.search.specs.Tests.{lengthTest}
 use borrow.Author.Needs.{needs}
 use Rattle.search.proofs.tests.length_test.Statement.{statement}
 use Rattle.search.proofs.tests.length_test.Tie as tie
-use Rattle.search.proofs.tests.length_test.Reads as reads
-use Rattle.search.proofs.tests.length_test.Lts as lts
-use Rattle.search.proofs.tests.fits.Reads as fits-reads
 
 enum-known-checked : tie.Need-enum-known-checked
 enum-known-checked c = search needs

@@ -4,8 +4,6 @@ use Rattle.search.specs.Tests.{nodeTest}
 use borrow.Author.Needs.{needs}
 use Rattle.search.proofs.tests.node_test.Statement.{statement}
 use Rattle.search.proofs.tests.node_test.Tie as tie
-use Rattle.search.proofs.tests.node_test.Reads as reads
-use Rattle.search.proofs.tests.node_test.Lts as lts
 
 enum-known-checked : tie.Need-enum-known-checked
 enum-known-checked c = search needs

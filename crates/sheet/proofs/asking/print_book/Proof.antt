@@ -8,11 +8,6 @@ use Rattle.sheet.proofs.Plans.{refusalFields, book-refused}
 use borrow.Author.Needs.{needs}
 use Rattle.sheet.proofs.asking.print_book.Statement.{statement}
 use Rattle.sheet.proofs.asking.print_book.Tie as tie
-use Rattle.sheet.proofs.asking.print_book.Reads as reads
-use Rattle.sheet.proofs.asking.print_book.Lts as lts
-use Rattle.search.proofs.check.Reads as check-reads
-use Rattle.sheet.proofs.asking.print_plan.Reads as print-plan-reads
-use Rattle.sheet.proofs.lines.put_refusal.Reads as put-refusal-reads
 
 planned : (c : tie.After-found) → Planned (now (c .before .before .before .before .before .args .book)) (c .before .before .before .before .before .args .origin .0) (c .before .before .before .before .before .args .destination .0) (refusalFields (c .found .given .0 .0))
 planned c = book-refused _ _ _ _ (sym (c .before .before .check .ensures) ∙ c .found .given .1)

@@ -7,9 +7,6 @@ use Rattle.book.proofs.GoodBook.{good-book}
 use borrow.Author.Needs.{needs}
 use Rattle.sheet.proofs.asking.print_plan.Statement.{statement}
 use Rattle.sheet.proofs.asking.print_plan.Tie as tie
-use Rattle.sheet.proofs.asking.print_plan.Reads as reads
-use Rattle.sheet.proofs.asking.print_plan.Lts as lts
-use Rattle.sheet.proofs.asking.print_search.Reads as print-search-reads
 
 few : (c : tie.Start) → (c .args .counts .turns ≤ 4096) × (c .args .counts .links ≤ 2048)
 few c =

@@ -8,11 +8,6 @@ use Rattle.sheet.proofs.Plans.{refusalFields, Led, route-refuses, route
 use borrow.Author.Needs.{needs}
 use Rattle.sheet.proofs.asking.print_route.Statement.{statement}
 use Rattle.sheet.proofs.asking.print_route.Tie as tie
-use Rattle.sheet.proofs.asking.print_route.Reads as reads
-use Rattle.sheet.proofs.asking.print_route.Lts as lts
-use Rattle.search.proofs.route.Reads as route-reads
-use Rattle.sheet.proofs.lines.put_refusal.Reads as put-refusal-reads
-use Rattle.sheet.proofs.lines.put_route.Reads as put-route-reads
 
 planned : (c : tie.After-found) → Planned (now (c .before .before .before .before .before .before .before .before .before .before .before .before .before .before .before .args .book)) (c .before .before .before .before .before .before .before .before .before .before .before .before .before .before .before .args .origin .0) (c .before .before .before .before .before .before .before .before .before .before .before .before .before .before .before .args .destination .0) (refusalFields (c .found .given .0 .0))
 planned c = route-refuses _ _ _ _ _ (c .before .before .before .before .before .before .before .before .before .before .before .before .before .before .before .pre .0) _ _ _ _ (c .before .before .before .before .before .before .before .before .before .before .before .before .before .before .before .pre .1 .0) (c .found .given .1) (c .before .before .before .before .route .ensures)

@@ -7,11 +7,6 @@ use Rattle.sheet.proofs.Plans.{refusalFields, origin-refused, search-re
 use borrow.Author.Needs.{needs}
 use Rattle.sheet.proofs.asking.print_search.Statement.{statement}
 use Rattle.sheet.proofs.asking.print_search.Tie as tie
-use Rattle.sheet.proofs.asking.print_search.Reads as reads
-use Rattle.sheet.proofs.asking.print_search.Lts as lts
-use Rattle.search.proofs.search.Reads as search-reads
-use Rattle.sheet.proofs.asking.print_route.Reads as print-route-reads
-use Rattle.sheet.proofs.lines.put_refusal.Reads as put-refusal-reads
 
 planned : (c : tie.After-found) → Planned (now (c .before .before .before .before .before .before .before .before .before .before .before .before .before .before .before .before .before .before .before .before .before .before .before .before .before .before .before .before .before .before .args .book)) (c .before .before .before .before .before .before .before .before .before .before .before .before .before .before .before .before .before .before .before .before .before .before .before .before .before .before .before .before .before .before .args .origin .0) (c .before .before .before .before .before .before .before .before .before .before .before .before .before .before .before .before .before .before .before .before .before .before .before .before .before .before .before .before .before .before .args .destination .0) (refusalFields (c .found .given .0 .0))
 planned c = origin-refused _ _ _ _ _ (c .before .before .before .before .before .before .before .before .before .before .before .before .before .before .before .before .before .before .before .before .before .before .before .before .before .before .before .before .before .before .pre .0) _ (search-refuses _ _ _ _ _ _ _ (c .before .before .before .before .before .before .before .before .before .before .before .before .before .before .search .ensures) _ (c .found .given .1))

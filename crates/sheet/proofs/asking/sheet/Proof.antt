@@ -9,11 +9,6 @@ use Rattle.sheet.proofs.Plans.{book-whole, line-said}
 use borrow.Author.Needs.{needs}
 use Rattle.sheet.proofs.asking.sheet.Statement.{statement}
 use Rattle.sheet.proofs.asking.sheet.Tie as tie
-use Rattle.sheet.proofs.asking.sheet.Reads as reads
-use Rattle.sheet.proofs.asking.sheet.Lts as lts
-use Rattle.sheet.proofs.asking.print_book.Reads as print-book-reads
-use Rattle.sheet.proofs.lines.put_refusal.Reads as put-refusal-reads
-use Rattle.sheet.proofs.numbers.number_at.Reads as number-at-reads
 
 returns : tie.Need-returns
 returns c = no-room (c .if1 .taken) refl refl

@@ -8,12 +8,8 @@ use native.Mathlib.Omega.{arith}
 use Rattle.book.proofs.GoodBook.{good-book}
 use Rattle.walk.proofs.Filling.{up-to-length, front-within}
 use borrow.Author.Needs.{needs}
-use Rattle.search.proofs.routing.labels_true.Statement.{statement}
-use Rattle.search.proofs.routing.labels_true.Tie as tie
-use Rattle.search.proofs.routing.labels_true.Reads as reads
-use Rattle.search.proofs.routing.labels_true.Lts as lts
-use Rattle.search.proofs.judging.judge.Reads as judge-reads
-use Rattle.walk.proofs.read_walks.Reads as read-walks-reads
+use Rattle.search.proofs.judging.labels_true.Statement.{statement}
+use Rattle.search.proofs.judging.labels_true.Tie as tie
 
 few-turns : (c : tie.Start) → c .args .counts .turns ≤ 4096
 few-turns c = omega (arith, good-book _ _ (c .pre .0) .limited)

@@ -22,6 +22,7 @@ pub use fields::turn_first;
 pub use fields::turn_second;
 pub use fields::turn_walk;
 pub use fields::write_walk;
+pub use numbers::number_at;
 pub use runs::pairs_from;
 pub use runs::turns_from;
 

@@ -1,7 +1,11 @@
-// What the programs of cases share: books made number by number, and the line of a case.
+// What the programs of cases share: books made number by number, their labels, and the line of a case.
 mod books;
+mod chain;
+mod changing;
+mod labelling;
 mod largest;
 mod lines;
+mod routes;
 
 pub use books::book_a;
 pub use books::put;
@@ -9,11 +13,30 @@ pub use books::put_book_a;
 pub use books::put_header;
 pub use books::put_link;
 pub use books::put_three;
+pub use chain::CHAIN_BYTES;
+pub use chain::put_chain;
+pub use changing::Change;
+pub use changing::LINK_BACK;
+pub use changing::LINK_COST;
+pub use changing::LINK_LINKS;
+pub use changing::NO_BACK;
+pub use changing::NO_COST;
+pub use changing::ONE_LESS;
+pub use changing::TURN_BACK;
+pub use changing::TURN_COST;
+pub use changing::TURN_LINKS;
+pub use changing::change_table;
+pub use changing::lent;
+pub use labelling::count_at;
+pub use labelling::put_labels;
 pub use largest::LARGEST_BYTES;
 pub use largest::put_largest;
 pub use lines::say;
 pub use lines::say_expected;
+pub use lines::say_expected_beyond;
 pub use lines::say_expected_refusal;
 pub use lines::say_name;
 pub use lines::say_number;
 pub use lines::say_refusal;
+pub use routes::say_figures;
+pub use routes::say_route;

@@ -1,4 +1,4 @@
-// The line of a case: its name, what came, and what document 01 says.
+// The line of a case: its name, what came, and what was expected, by document 01 or beyond it.
 use book::Refusal;
 use libc::STDOUT_FILENO;
 
@@ -22,13 +22,20 @@ pub fn say_expected(text: &[u8]) {
     say(b"\n");
 }
 
+// What is expected beyond document 01, and the end of the line.
+pub fn say_expected_beyond(text: &[u8]) {
+    say(b", expected ");
+    say(text);
+    say(b"\n");
+}
+
 pub fn say_refusal(found: Refusal) {
     say_number(found.number as u64);
     say(b" ");
     say_number(found.place as u64);
 }
 
-// The same for a number and a place.
+// What document 01 says of a number and a place.
 pub fn say_expected_refusal(number: u64, place: u64) {
     say(b", document 01 says ");
     say_number(number);

@@ -27,13 +27,9 @@ use Rattle.walk.proofs.GoodView.{good-view}
 use Rattle.walk.proofs.LabelLaws.{turn-one, link-one}
 use Rattle.edit.specs.declared.Edited.the-variants.{Done}
 use Rattle.edit.specs.Edit.{Edit, refused, untrue, done}
+use Rattle.edit.specs.Demands.{Avoids, Untouched, avoided, no-walk, Keeps}
 use Rattle.edit.proofs.Tested.{edit-passed}
 use Rattle.edit.proofs.Determined.{LabelsOf}
-use Rattle.edit.proofs.RunsHold.{Each}
-
--- none of the turns is the closed one
-abbrev pub Avoids : ℕ → List ℕ → Type 0
-Avoids closed turns = Each (λ (t : ℕ). t ≡ closed → ⊥) turns
 
 module _ {A : Type 0} (closed : ℕ) where
   map-kept : (f g : ℕ → A) → ((t : ℕ) → (t ≡ closed → ⊥) → f t ≡ g t) → (turns : List ℕ) → Avoids closed turns → map f turns ≡ map g turns
@@ -47,11 +43,6 @@ module _ {A : Type 0} (closed : ℕ) where
 
 last-but-one : (a b c : Bool) → (a && b && c) ≡ true → b ≡ true
 last-but-one a b c h = both a b (both (a && b) c h .0) .1
-
--- of the walks of one kind there is none, or the chosen one avoids the closed turn
-pub data Untouched (U : View) (W : List ℕ → Type 0) (closed : ℕ) : Type 0 where
-  avoided : (links : List ℕ) → Chosen U W links → Avoids closed (turnsOf U links) → Untouched U W closed
-  no-walk : ((links : List ℕ) → W links → ⊥) → Untouched U W closed
 
 -- a view with other walks
 abbrev withWalks : View → (ℕ → ℕ) → View
@@ -183,11 +174,6 @@ module _ (U : View) (walks : ℕ → ℕ) (closed : ℕ) (kept : (t : ℕ) → (
   link-both-true : (r l : ℕ) → Untouched U (LinkWalk U r l) closed → (entry : Entry) × TrueLink U r l entry × TrueLink after r l entry
   unfolding turnOf
   link-both-true r l h = both-true (LinkWalk U r l) (LinkWalk after r l) (link-lessened r l) (linkBack U) (linkBack after) (λ links. refl) h
-
--- what a closing leaves of the labels: every untouched entry as it was
-pub record Keeps (U : View) (r closed : ℕ) (turns links turns-after links-after : Table) : Type 0 where
-  pub turn : (t : ℕ) → t < U .turns → Untouched U (TurnWalk U r t) closed → entryAt turns-after t ≡ entryAt turns t
-  pub link : (l : ℕ) → l < U .links → Untouched U (LinkWalk U r l) closed → entryAt links-after l ≡ entryAt links l
 
 -- a good book with one change closed
 module _ (book : List ℕ) (counts : Counts) (closed : ℕ) (checked : checkOf book ≡ Good counts) (within : closed < counts .turns) where

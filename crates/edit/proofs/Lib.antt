@@ -6,3 +6,4 @@ pub mod Determined
 pub mod RunsHold
 pub mod Closing
 pub mod TurnedAway
+pub mod EditsRefused

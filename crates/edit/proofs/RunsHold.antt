@@ -1,7 +1,7 @@
 -- Every edit of a run leaves a good book and its true labels, so the next one finds them true, and only the turn or its walk can be refused.
 use Prim.Native.Nat.{ℕ, _<_}
 use mathlib.Core.Path.{_≡_, refl, sym, _∙_, subst}
-use mathlib.Core.List.{List, [], _∷_, _++_}
+use mathlib.Core.List.{List, _++_}
 use mathlib.Core.Bool.{Bool, true, false, _&&_}
 use native.Mathlib.Omega.{arith}
 use lib.Dec.{ltb}
@@ -22,29 +22,11 @@ use Rattle.search.specs.Search.{Search, refused as search-refused, done as sear
 use Rattle.search.proofs.Tested.{node-passed, length-passed, search-passed, lengths-fit}
 use Rattle.search.proofs.Determined.{true-sized, labels-one}
 use Rattle.edit.specs.declared.Edited.{Edited}
-use Rattle.edit.specs.Edit.{turnTest, editTests, editGivenBack, Edit, refused, untrue, done}
+use Rattle.edit.specs.Edit.{turnTest, editTests, Edit, refused, untrue, done}
 use Rattle.edit.specs.Run.{Change, ifDone, written, Run, start, next}
+use Rattle.edit.specs.Demands.{NotThirteen, RunHolds}
 use Rattle.edit.proofs.Tested.{edit-passed}
 use Rattle.edit.proofs.Determined.{LabelsOf, edited-good}
-
--- every one of a list
-abbrev pub Each : {A : Type 0} → (A → Type 0) → List A → Type 0
-Each P [] = Unit {0}
-Each P (a ∷ rest) = P a × Each P rest
-
-abbrev pub NotThirteen : Edited → Type 0
-NotThirteen answer = editGivenBack answer .number ≡ 13 → ⊥
-
--- what a run from a good book and its true labels leaves
-pub record RunHolds (r : ℕ) (book : List ℕ) (counts : Counts) (answers : List Edited) (changes : List Change) (last : List ℕ) (turns-last links-last : Table) : Type 0 where
-  -- exactly the done edits, in order
-  pub edits : last ≡ written book counts changes
-  pub good : checkOf last ≡ Good counts
-  pub labels : TrueLabels (viewOf last counts) r turns-last links-last
-  -- what any fresh search of the last book leaves
-  pub fresh : (turns links : Table) (answer : Searched) (turns-fresh links-fresh : Table) → Search last r turns links answer turns-fresh links-fresh → answer ≡ SearchDone → (turns-fresh ≡ turns-last) × (links-fresh ≡ links-last)
-  -- no label that an edit left is turned away
-  pub not-thirteen : Each NotThirteen answers
 
 -- what one edit of the run leaves to those after it
 record EditHolds (r : ℕ) (book : List ℕ) (counts : Counts) (change : Change) (answer : Edited) (book-after : List ℕ) (turns-after links-after : Table) : Type 0 where

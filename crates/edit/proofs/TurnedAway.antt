@@ -26,16 +26,9 @@ use Rattle.search.proofs.Tested.{route-passed}
 use Rattle.edit.specs.declared.Edited.{Edited}
 use Rattle.edit.specs.declared.Edited.the-variants.{Refused as EditRefused}
 use Rattle.edit.specs.Edit.{editTests, Edit, refused, untrue, done}
+use Rattle.edit.specs.Demands.{Differs, SomeDiffers}
 use Rattle.edit.proofs.Tested.{edit-passed}
 use Rattle.edit.proofs.Determined.{LabelsOf}
-
--- an entry within a table that is not the true one
-abbrev pub Differs : ℕ → (ℕ → Entry → Type 0) → Table → Type 0
-Differs count TrueAt table = (k : ℕ) × (k < count) × (e : Entry) × TrueAt k e × (entryAt table k ≡ e → ⊥)
-
--- some entry of the two tables is not the true one
-abbrev pub SomeDiffers : View → ℕ → Table → Table → Type 0
-SomeDiffers U r turns links = Differs (U .turns) (TrueTurn U r) turns ⊎ Differs (U .links) (TrueLink U r) links
 
 module _ (count : ℕ) (TrueAt : ℕ → Entry → Type 0) (exists : (k : ℕ) → k < count → (e : Entry) × TrueAt k e) (table : Table) where
   entry-or-differs : (k : ℕ) → k < count → TrueAt k (entryAt table k) ⊎ Differs count TrueAt table

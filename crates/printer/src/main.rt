@@ -4,7 +4,7 @@ use libc::STDOUT_FILENO;
 use sheet::Sheeted;
 use sheet::sheet;
 
-// The buffer holds more than the largest book, and any longer input has the same answer as its first 65,536 bytes.
+// The buffer holds more than the largest book, and any longer input has the same answer as its first 65,536 bytes (`read-says` in the sheet's OverLong).
 fn main() {
     let mut input = io::large_buffer();
     let length = io::read_full(STDIN_FILENO, &mut input);

@@ -6,10 +6,10 @@ use cases::put_link;
 
 fn put_all(bytes: &mut [u8], at: usize, numbers: &[u16]) -> usize {
     let mut at = at;
-    let mut i = 0;
-    'numbers: while i < numbers.len() {
-        at = put(bytes, at, numbers[i]);
-        i += 1;
+    let mut passed = 0;
+    'numbers: while passed < numbers.len() {
+        at = put(bytes, at, numbers[passed]);
+        passed += 1;
     }
     at
 }

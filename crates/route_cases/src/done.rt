@@ -3,10 +3,10 @@ use super::books::circle_book;
 use super::books::crossed_book;
 use super::books::equal_book;
 use super::books::free_book;
-use super::changing::Change;
 use super::running::from_to;
 use super::running::refuse;
 use super::running::run;
+use cases::Change;
 use cases::book_a;
 use cases::put;
 

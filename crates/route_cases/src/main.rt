@@ -1,6 +1,5 @@
 // Routes on book A and on books near it, and everything that a route refuses.
 mod books;
-mod changing;
 mod done;
 mod refusals;
 mod running;

@@ -1,14 +1,14 @@
 // Refusals of the book, of a node and of a buffer's length, and their order.
-use super::changing::Change;
-use super::changing::LINK_BACK;
-use super::changing::LINK_COST;
-use super::changing::LINK_LINKS;
-use super::changing::TURN_BACK;
-use super::changing::TURN_COST;
-use super::changing::TURN_LINKS;
 use super::running::Asked;
 use super::running::from_to;
 use super::running::refuse;
+use cases::Change;
+use cases::LINK_BACK;
+use cases::LINK_COST;
+use cases::LINK_LINKS;
+use cases::TURN_BACK;
+use cases::TURN_COST;
+use cases::TURN_LINKS;
 use cases::book_a;
 use cases::put;
 

@@ -1,28 +1,27 @@
 // One case: labels from a search, perhaps changed, a route asked with them, and the line about it.
-use super::changing::Change;
-use super::changing::LINK_BACK;
-use super::changing::LINK_COST;
-use super::changing::LINK_LINKS;
-use super::changing::TURN_BACK;
-use super::changing::TURN_COST;
-use super::changing::TURN_LINKS;
-use super::changing::change_table;
-use super::changing::lent;
 use super::saying::MARK;
 use super::saying::marks_kept;
 use super::saying::mixture_of_table;
 use super::saying::say_kept;
-use super::saying::say_route;
 use book::NodeNumber;
+use cases::Change;
+use cases::LINK_BACK;
+use cases::LINK_COST;
+use cases::LINK_LINKS;
+use cases::TURN_BACK;
+use cases::TURN_COST;
+use cases::TURN_LINKS;
+use cases::count_at;
+use cases::lent;
+use cases::put_labels;
 use cases::say_expected;
 use cases::say_expected_refusal;
 use cases::say_name;
+use cases::say_route;
 use search::RouteFigures;
 use search::route;
 use search::route_given_back;
-use search::search;
 ghost use Prim.Native.Nat.{_≤_};
-ghost use lib.ListN.{length};
 
 // One more than the most turns and links of a book here.
 const ROOM: usize = 17;
@@ -156,52 +155,6 @@ fn ask_lent(
     )
 }
 
-// A search in the first numbers of each buffer.
-fn search_front(
-    book: &[u8],
-    start: u16,
-    turns: usize,
-    links: usize,
-    turn_cost: &mut [u32],
-    turn_links: &mut [u16],
-    turn_back: &mut [u16],
-    link_cost: &mut [u32],
-    link_links: &mut [u16],
-    link_back: &mut [u16],
-)
-    requires { ⌜ (turns ≤ length (now «turn_cost»)) × (turns ≤ length (now «turn_links»)) × (turns ≤ length (now «turn_back»)) ⌝ }
-    requires { ⌜ (links ≤ length (now «link_cost»)) × (links ≤ length (now «link_links»)) × (links ≤ length (now «link_back»)) ⌝ }
-{
-    search(
-        book,
-        NodeNumber(start),
-        &mut turn_cost[..turns],
-        &mut turn_links[..turns],
-        &mut turn_back[..turns],
-        &mut link_cost[..links],
-        &mut link_links[..links],
-        &mut link_back[..links],
-    );
-}
-
-fn widened(byte: u8) -> usize {
-    byte as usize
-}
-
-// A count of a book's header, up to 16.
-fn count_at(book: &[u8], at: usize) -> usize
-    ensures { λ r. ⌜ r ≤ 16 ⌝ }
-{
-    if book.len() <= at {
-        return 0;
-    }
-    let count = widened(book[at]);
-    if 16 < count {
-        return 16;
-    }
-    count
-}
-
 // Asks of `book` with the labels that `labelled` has from `start`, changed; answers the number.
 pub fn ask(labelled: &[u8], start: u16, change: Change, book: &[u8], asked: Asked) -> u64 {
     let mut turn_cost = [0u32; ROOM];
@@ -210,30 +163,17 @@ pub fn ask(labelled: &[u8], start: u16, change: Change, book: &[u8], asked: Aske
     let mut link_cost = [0u32; ROOM];
     let mut link_links = [0u16; ROOM];
     let mut link_back = [0u16; ROOM];
-    let links = count_at(labelled, 9);
-    let turns = count_at(labelled, 11);
-    search_front(
+    let links = count_at(labelled, 9, 16);
+    let turns = count_at(labelled, 11, 16);
+    put_labels(
         labelled,
         start,
+        change,
         turns,
         links,
         &mut turn_cost,
         &mut turn_links,
         &mut turn_back,
-        &mut link_cost,
-        &mut link_links,
-        &mut link_back,
-    );
-    change_table(
-        change,
-        TURN_COST,
-        &mut turn_cost,
-        &mut turn_links,
-        &mut turn_back,
-    );
-    change_table(
-        change,
-        LINK_COST,
         &mut link_cost,
         &mut link_links,
         &mut link_back,

@@ -1,7 +1,5 @@
-// What a route gave back, and whether everything else that was lent keeps its content.
+// Whether everything that a route does not write keeps its content.
 use cases::say;
-use cases::say_number;
-use search::RouteFigures;
 
 // What every number of the route buffer holds beforehand.
 pub const MARK: u16 = 777;
@@ -15,42 +13,6 @@ fn wide_cost(cost: u32) -> u64 {
 
 fn wide(number: u16) -> u64 {
     number as u64
-}
-
-// Number, place, cost and number of links.
-fn say_figures(figures: RouteFigures) {
-    say_number(figures.number as u64);
-    say(b" ");
-    say_number(figures.place as u64);
-    say(b" ");
-    say_number(wide_cost(figures.cost));
-    say(b" ");
-    say_number(wide(figures.links));
-}
-
-fn say_link(route: &[u16], at: usize) {
-    if at < route.len() {
-        say(b" ");
-        say_number(wide(route[at]));
-    }
-}
-
-fn say_links(route: &[u16], count: usize) {
-    let mut at = 0;
-    'links: while at < count {
-        say_link(route, at);
-        at += 1;
-    }
-}
-
-// The figures, then the route's links where there are any.
-pub fn say_route(figures: RouteFigures, route: &[u16]) {
-    say_figures(figures);
-    let count = figures.links as usize;
-    if 0 < count {
-        say(b" by");
-        say_links(route, count);
-    }
 }
 
 // Whether the route buffer keeps its marks from this place on.
@@ -77,7 +39,7 @@ pub fn say_kept(done: bool, kept: bool) {
     say(b", nothing changed");
 }
 
-// Tells numbers in their order apart.
+// One number made of many in their order: where it changes one of them has, but not every change shows.
 fn mixed(mixture: u64, more: u64) -> u64 {
     (3 * (mixture % ABOVE_MIXTURES) + more % ABOVE_MIXTURES) % ABOVE_MIXTURES
 }

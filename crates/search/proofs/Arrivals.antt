@@ -25,7 +25,7 @@ use Rattle.walk.proofs.ChosenLaws.{Limited, link-bounded, route-bounded}
 use Rattle.walk.proofs.CaseTests.{tested}
 use Rattle.walk.proofs.LabelLaws.{figures-reading, link-inside, Found, route-found, none-found, destination-found}
 use Rattle.search.specs.steps.Tables.{goesAhead}
-use Rattle.search.specs.steps.Candidates.{turnLabel}
+use Rattle.search.specs.steps.Candidates.{ownLabel}
 use Rattle.search.specs.steps.Passing.{better, offeredIf}
 use Rattle.search.specs.steps.Arriving.{isEntering, bestInto}
 use Rattle.search.proofs.LinkEnds.{Held, none-held, alone-held, offer-held, taken, still-held, taken-held, label, taken-figures, when-none}
@@ -93,7 +93,7 @@ module _ (U : View) (good : GoodView U) (limited : Limited U) (few : U .turns < 
     untouched silent passed =
         let stays : swept (suc l) ≡ swept l = ap (λ (o : Option Key). offer Key (byKey keyLess) (swept l) o (via l)) silent in
         record {
-          entry = ap (λ (test : Bool). offeredIf test (turnLabel (links .cost) (links .links) l) (best l)) passed ∙ before .entry ∙ ap figures (sym stays);
+          entry = ap (λ (test : Bool). offeredIf test (ownLabel (links .cost) (links .links) l) (best l)) passed ∙ before .entry ∙ ap figures (sym stays);
           held = subst (Held 0 (suc l)) (sym stays) (still-held (before .held));
         }
 
@@ -106,7 +106,7 @@ module _ (U : View) (good : GoodView U) (limited : Limited U) (few : U .turns < 
         cost-same = ap (λ (x : Entry). x .cost) same
 
         new : Entry
-        new = turnLabel (links .cost) (links .links) l
+        new = ownLabel (links .cost) (links .links) l
 
         new-same : new ≡ label l k
         new-same = λ i. record { cost = sym cost-same i; links = ap (λ (x : Entry). x .links) (sym same) i; back = l }

@@ -10,7 +10,7 @@ use lib.ListN.{length, getD, take, drop, take-append-drop}
 use lib.Seq.{take-suc}
 use Rattle.walk.specs.Labels.{Entry}
 use Rattle.search.specs.steps.Picking.{LeastOf}
-use Rattle.search.specs.steps.Candidates.{turnLabel, comesBefore, chosenIf, earlier, AllBelow, FirstAmong, Gathered}
+use Rattle.search.specs.steps.Candidates.{ownLabel, comesBefore, chosenIf, earlier, AllBelow, FirstAmong, Gathered}
 use Rattle.search.proofs.LabelOrder.{never-sooner, sooner-still, test-holds, test-fails, later}
 use Rattle.search.proofs.Gathering.{refuted, one-of-more, on-list, listed}
 
@@ -27,7 +27,7 @@ taken-below bound list k v m below = below v (rw take-append-drop at (Memᴰ·ap
 
 module _ (cost links : List ℕ) where
   abbrev label : ℕ → Entry
-  label turn = turnLabel cost links turn
+  label turn = ownLabel cost links turn
 
   not-itself : (turn : ℕ) → comesBefore cost links turn turn ≡ false
   not-itself turn = refuted _ (λ e. never-sooner (label turn) (test-holds (label turn) (label turn) e))

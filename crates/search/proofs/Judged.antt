@@ -22,7 +22,7 @@ use Rattle.walk.proofs.ChosenLaws.{Limited, turn-bounded}
 use Rattle.walk.proofs.LabelLaws.{reading-none, local-true, local-links-true}
 use Rattle.search.specs.steps.Tables.{standsAs, goesAhead, Sized}
 use Rattle.search.specs.steps.Starts.{startEntry, aloneEntry}
-use Rattle.search.specs.steps.Candidates.{turnLabel}
+use Rattle.search.specs.steps.Candidates.{ownLabel}
 use Rattle.search.specs.steps.Passing.{onwardTo}
 use Rattle.search.specs.steps.Judging.{everyBelow, limited, overtaken, backLeads, reachedStands, turnStands, endLeads, linkStands, allStand, Tells}
 use Rattle.search.proofs.EveryBelow.{every-at, every-holds}
@@ -90,7 +90,7 @@ module _ (U : View) (turns : Table) where
 
   -- the entry e of link l is that of turn t
   abbrev EndsFrom : ℕ → Entry → ℕ → Type 0
-  EndsFrom l e t = (t < U .turns) × ((eqb (getD (turns .cost) t 0) (noEntry .cost) ≡ false) × ((U .second t ≡ l) × (e ≡ turnLabel (turns .cost) (turns .links) t)))
+  EndsFrom l e t = (t < U .turns) × ((eqb (getD (turns .cost) t 0) (noEntry .cost) ≡ false) × ((U .second t ≡ l) × (e ≡ ownLabel (turns .cost) (turns .links) t)))
 
   says-leads : (t : ℕ) (e : Entry) → Says (backLeads U turns t e) (LeadsFrom t e (e .back))
   unfolding backLeads
@@ -108,7 +108,7 @@ module _ (U : View) (r : ℕ) (turns links : Table) where
   abbrev ReachedStands : ℕ → Type 0
   ReachedStands t =
       ((entryAt turns t ≡ startEntry U r t) ⊎ LeadsFrom U turns t (entryAt turns t) (entryAt turns t .back))
-      × ((goesAhead (turnLabel (turns .cost) (turns .links) t) (entryAt links (U .second t)) ≡ false)
+      × ((goesAhead (ownLabel (turns .cost) (turns .links) t) (entryAt links (U .second t)) ≡ false)
       × ((v : ℕ) → v < U .turns → mayFollow U t v ≡ true → goesAhead (onwardTo U t (entryAt turns t .cost) (entryAt turns t .links) v) (entryAt turns v) ≡ false))
 
   abbrev TurnStands : ℕ → Type 0

@@ -16,7 +16,7 @@ use Rattle.walk.specs.steps.Pairs.{stepTo, secondsMore}
 use Rattle.walk.specs.steps.ViewNet.{isOpen, mayFollow}
 use Rattle.walk.proofs.OneMore.{stepped}
 use Rattle.search.specs.steps.Tables.{standsAs, goesAhead}
-use Rattle.search.specs.steps.Candidates.{turnLabel}
+use Rattle.search.specs.steps.Candidates.{ownLabel}
 use Rattle.search.specs.steps.Passing.{onwardTo}
 use Rattle.search.specs.steps.Judging.{limited, overtakenBy, overtaken, steppedBy, backLeads, reachedStands, everyBelow}
 use Rattle.search.proofs.Offers.{step-as}
@@ -71,7 +71,7 @@ module _ (U : View) (turns : Table) (t : ℕ) (e before : Entry) (stands : Betwe
 
 -- the tests of a reached turn, where e is its entry
 pub reached-by : (U : View) (start : Entry) (turns links : Table) (t : ℕ) (e : Entry) → e ≡ entryAt turns t → {begun backed ended kept : Bool} → begun ≡ standsAs e start → backed ≡ backLeads U turns t e
-    → ended ≡ not (goesAhead (turnLabel (turns .cost) (turns .links) t) (entryAt links (U .second t))) → kept ≡ everyBelow (λ v. not (overtaken U t (e .cost) (e .links) turns v)) (U .turns)
+    → ended ≡ not (goesAhead (ownLabel (turns .cost) (turns .links) t) (entryAt links (U .second t))) → kept ≡ everyBelow (λ v. not (overtaken U t (e .cost) (e .links) turns v)) (U .turns)
     → ((begun || backed) && (ended && kept)) ≡ reachedStands U start turns links t
 unfolding reachedStands
 reached-by U start turns links t e same begin back end keep = rw (begin, back, end, keep, same)

@@ -14,7 +14,7 @@ use Rattle.book.proofs.Limits.{both}
 use Rattle.book.proofs.Passes.{passed}
 use Rattle.walk.specs.Labels.{Table}
 use Rattle.walk.proofs.theory.Laws.{clash}
-use Rattle.search.specs.Tests.{nodeTest, fits, lengthTest}
+use Rattle.search.specs.Tests.{nodeTest, bothNodes, fits, lengthTest}
 use Rattle.search.specs.Search.{searchTests}
 use Rattle.search.specs.Route.{routeTests}
 use Rattle.search.specs.steps.Tables.{Sized}
@@ -68,5 +68,5 @@ search-passed book r turns links counts h =
 
 pub route-passed : (book : List ℕ) (r s : ℕ) (turns links : Table) (counts : Counts) → routeTests book r s turns links ≡ Good counts → Lent book counts turns links
 route-passed book r s turns links counts h =
-    let (nodes, lengths) = length-passed (nodeTest (nodeTest (checkOf book) r) s) turns links counts h in
+    let (nodes, lengths) = length-passed (bothNodes book r s) turns links counts h in
     (node-passed (checkOf book) r counts (node-passed (nodeTest (checkOf book) r) s counts nodes .0) .0, lengths)

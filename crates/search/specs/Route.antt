@@ -7,17 +7,17 @@ use Rattle.book.specs.declared.Counts.{Counts}
 use Rattle.book.specs.declared.Refusal.{Refusal}
 use Rattle.book.specs.declared.Checked.{Checked}
 use Rattle.book.specs.declared.Checked.the-variants.{Good, Refused}
-use Rattle.book.specs.Check.{checkOf, refusal}
+use Rattle.book.specs.Check.{refusal}
 use Rattle.walk.specs.View.{View, viewOf}
 use Rattle.walk.specs.Walks.{costOf}
 use Rattle.walk.specs.Labels.{Table, TrueLabels, NodeWalk, Route}
 use Rattle.search.specs.declared.Routed.{Routed}
 use Rattle.search.specs.declared.Routed.the-variants.{Done, Refused as RouteRefused}
 use Rattle.search.specs.declared.RouteFigures.{RouteFigures}
-use Rattle.search.specs.Tests.{nodeTest, lengthTest}
+use Rattle.search.specs.Tests.{bothNodes, lengthTest}
 
 abbrev pub routeTests : List ℕ → ℕ → ℕ → Table → Table → Checked
-routeTests book r s turns links = lengthTest (nodeTest (nodeTest (checkOf book) r) s) turns links
+routeTests book r s turns links = lengthTest (bothNodes book r s) turns links
 
 -- number, place, cost and number of links of each case of the answer: what is not given is 0
 abbrev pub routeGivenBack : Routed → RouteFigures

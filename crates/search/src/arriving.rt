@@ -1,9 +1,10 @@
 // The best of the links that enter a destination.
+use super::Arrival;
 use super::Label;
 use super::figures::NO_WALK;
 use super::figures::UNREACHED;
 use super::labels::goes_ahead;
-use super::picking::turn_label;
+use super::picking::own_label;
 use book::Counts;
 use book::LinkNumber;
 use book::NodeNumber;
@@ -16,7 +17,7 @@ ghost use Rattle.book.specs.Tables.{linkTable};
 ghost use Rattle.book.specs.Entries.{linkTo};
 ghost use Rattle.book.specs.Check.{checkOf};
 ghost use Rattle.search.specs.steps.Tables.{asEntry};
-ghost use Rattle.search.specs.steps.Arriving.{betterOf, bestInto};
+ghost use Rattle.search.specs.steps.Arriving.{betterOf, bestInto, arrivalOf};
 
 // The better of the label held and the link's own, where the link is reached and enters the destination.
 fn better_of(
@@ -39,15 +40,15 @@ fn better_of(
     if to.0 != destination.0 {
         return held;
     }
-    let label = turn_label(cost, links, link.0);
+    let label = own_label(cost, links, link.0);
     if goes_ahead(label, held) {
         return label;
     }
     held
 }
 
-// The best of the links that enter a destination: its cost and links, with the link as the back; or no walk.
-pub fn best_into(
+// The best label of the links that enter a destination, whose back is the link's own number; or no walk.
+fn best_label(
     book: &[u8],
     counts: Counts,
     destination: NodeNumber,
@@ -75,4 +76,22 @@ pub fn best_into(
         );
         link += 1;
     }
+}
+
+// Document 01's last link of the route: of the links that enter the destination the best, with its figures.
+pub fn best_into(
+    book: &[u8],
+    counts: Counts,
+    destination: NodeNumber,
+    cost: &[u32],
+    links: &[u16],
+) -> Arrival
+    requires { ⌜ (checkOf (now book) ≡ Good counts) × (length (now cost) ≡ counts .links) × (length (now links) ≡ counts .links) ⌝ }
+    ensures { λ r. ⌜ r ≡ arrivalOf (bestInto (linkTo (linkTable (now (book .entry)) counts)) (now (cost .entry)) (now (links .entry)) (destination .0) (counts .links)) ⌝ }
+{
+    let label = best_label(book, counts, destination, cost, links);
+    if label.cost == UNREACHED {
+        return Arrival::Nothing;
+    }
+    Arrival::By(LinkNumber(label.back), label.cost, label.links)
 }

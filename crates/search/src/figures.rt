@@ -20,6 +20,6 @@ pub const START_BACK: u16 = 65534;
 pub const MOST_TURNS: usize = 4096;
 
 // The most links, and the most seconds, of a chosen walk.
-pub const MOST_LINKS: u16 = 4097;
+pub const MOST_WALK_LINKS: u16 = 4097;
 
 pub const MOST_SECONDS: u32 = 191728800;

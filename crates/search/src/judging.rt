@@ -7,7 +7,7 @@ use super::labels::is_none;
 use super::labels::label_at;
 use super::labels::limited;
 use super::labels::same_label;
-use super::picking::turn_label;
+use super::picking::own_label;
 use super::starts::alone;
 use super::starts::start_of;
 use book::Counts;
@@ -37,7 +37,7 @@ ghost use Rattle.walk.specs.Walks.{lookUp};
 ghost use Rattle.walk.specs.Labels.{entryAt, TrueLabels};
 ghost use Rattle.walk.specs.steps.Pairs.{listedAt, stepTo};
 ghost use Rattle.search.specs.steps.Tables.{three, asEntry, goesAhead, Sized};
-ghost use Rattle.search.specs.steps.Candidates.{turnLabel};
+ghost use Rattle.search.specs.steps.Candidates.{ownLabel};
 ghost use Rattle.search.specs.steps.Judging.{everyBelow, limited as isLimited, overtakenBy, overtaken, steppedBy, backLeads, reachedStands, turnStands, endLeads, linkStands, Tells};
 
 // Whether what turn `before`, of this cost and these links, offers a turn goes ahead of its label; the pairs of `before` end at `to`, and those before `at` are of earlier turns.
@@ -175,10 +175,10 @@ fn end_stands(
     requires { ⌜ (checkOf (now book) ≡ Good counts) × (length (now «turn_cost») ≡ counts .turns) × (length (now «turn_links») ≡ counts .turns) ⌝ }
     requires { ⌜ turn .0 < counts .turns ⌝ }
     requires { ⌜ Sized (counts .links) (three (now cost) (now links) (now back)) ⌝ }
-    ensures { λ r. ⌜ r ≡ not (goesAhead (turnLabel (now («turn_cost» .entry)) (now («turn_links» .entry)) (turn .0)) (entryAt (three (now (cost .entry)) (now (links .entry)) (now (back .entry))) (turnSecond (turnTable (now (book .entry)) counts) (turn .0)))) ⌝ }
+    ensures { λ r. ⌜ r ≡ not (goesAhead (ownLabel (now («turn_cost» .entry)) (now («turn_links» .entry)) (turn .0)) (entryAt (three (now (cost .entry)) (now (links .entry)) (now (back .entry))) (turnSecond (turnTable (now (book .entry)) counts) (turn .0)))) ⌝ }
 {
     let link = turn_second(book, counts, turn);
-    let label = turn_label(turn_cost, turn_links, turn.0);
+    let label = own_label(turn_cost, turn_links, turn.0);
     !goes_ahead(label, label_at(cost, links, back, link.0 as usize))
 }
 
@@ -337,7 +337,7 @@ fn end_leads(
     }
     let second = turn_second(book, counts, TurnNumber(label.back));
     (turn_cost[label.back as usize] != UNREACHED)
-        & ((second.0 == link.0) & same_label(label, turn_label(turn_cost, turn_links, label.back)))
+        & ((second.0 == link.0) & same_label(label, own_label(turn_cost, turn_links, label.back)))
 }
 
 fn link_stands(

@@ -1,4 +1,5 @@
 // Search: the labels of every turn and every link from one origin, and the routes that are read from them.
+use book::LinkNumber;
 use book::Refusal;
 use book::TurnNumber;
 
@@ -17,10 +18,12 @@ mod starts;
 mod tests;
 mod tracing;
 
+pub use arriving::best_into;
 pub use judging::labels_true;
 pub use labels::label_at;
 pub use labels::same_label;
 pub use offered::check;
+pub use offered::number_at;
 pub use offered::seconds_good;
 pub use offered::write_walk;
 pub use routing::route;
@@ -40,6 +43,12 @@ pub struct Label {
 // The turn to settle next.
 pub enum Picked {
     Turn(TurnNumber),
+    Nothing,
+}
+
+// The last link, cost and number of links of the best way into a destination.
+pub enum Arrival {
+    By(LinkNumber, u32, u16),
     Nothing,
 }
 

@@ -3,8 +3,10 @@ use book::Checked;
 use book::Counts;
 use book::TurnNumber;
 ghost use mathlib.Core.Path.{_≡_};
-ghost use Prim.Native.Nat.{_<_};
+ghost use Prim.Native.Nat.{_+_, _<_};
+ghost use lib.ListN.{length};
 ghost use Rattle.book.specs.declared.Checked.the-variants.{Good};
+ghost use Rattle.book.specs.Number.{numberAt};
 ghost use Rattle.book.specs.Entries.{secondsGood};
 ghost use Rattle.book.specs.Check.{checkOf};
 ghost use Rattle.book.specs.Walk.{withWalk};
@@ -13,6 +15,13 @@ pub fn check(book: &[u8]) -> Checked
     ensures { λ r. ⌜ r ≡ checkOf (now (book .entry)) ⌝ }
 {
     walk::check(book)
+}
+
+pub fn number_at(bytes: &[u8], at: usize) -> u16
+    requires { ⌜ at + 1 < length (now bytes) ⌝ }
+    ensures { λ r. ⌜ r ≡ numberAt (now (bytes .entry)) at ⌝ }
+{
+    walk::number_at(bytes, at)
 }
 
 pub fn seconds_good(seconds: u16) -> bool

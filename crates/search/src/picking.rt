@@ -11,7 +11,7 @@ ghost use lib.ListN.{length};
 ghost use Rattle.book.specs.Header.{mostTurns};
 ghost use Rattle.search.specs.steps.Tables.{asEntry};
 ghost use Rattle.search.specs.steps.Picking.{isCandidate, Picks};
-ghost use Rattle.search.specs.steps.Candidates.{Gathered, turnLabel, comesBefore, earlier, AllBelow, FirstAmong};
+ghost use Rattle.search.specs.steps.Candidates.{Gathered, ownLabel, comesBefore, earlier, AllBelow, FirstAmong};
 
 // Whether a turn is reached and not settled.
 fn is_candidate(cost: &[u32], settled: &[u8], turn: usize) -> bool
@@ -40,15 +40,15 @@ fn gather(cost: &[u32], settled: &[u8], candidates: &mut [u16]) -> usize
     }
 }
 
-// What a turn offers: its figures, and itself as the back.
-pub fn turn_label(cost: &[u32], links: &[u16], turn: u16) -> Label
-    requires { ⌜ (turn < length (now cost)) × (turn < length (now links)) ⌝ }
-    ensures { λ r. ⌜ asEntry r ≡ turnLabel (now (cost .entry)) (now (links .entry)) turn ⌝ }
+// What a turn or a link offers: its figures, and its own number as the back.
+pub fn own_label(cost: &[u32], links: &[u16], own: u16) -> Label
+    requires { ⌜ (own < length (now cost)) × (own < length (now links)) ⌝ }
+    ensures { λ r. ⌜ asEntry r ≡ ownLabel (now (cost .entry)) (now (links .entry)) own ⌝ }
 {
     Label {
-        cost: cost[turn as usize],
-        links: links[turn as usize],
-        back: turn,
+        cost: cost[own as usize],
+        links: links[own as usize],
+        back: own,
     }
 }
 
@@ -57,7 +57,7 @@ fn comes_before(cost: &[u32], links: &[u16], one: u16, other: u16) -> bool
     requires { ⌜ (length (now links) ≡ length (now cost)) × (one < length (now cost)) × (other < length (now cost)) ⌝ }
     ensures { λ r. ⌜ r ≡ comesBefore (now (cost .entry)) (now (links .entry)) one other ⌝ }
 {
-    goes_ahead(turn_label(cost, links, one), turn_label(cost, links, other))
+    goes_ahead(own_label(cost, links, one), own_label(cost, links, other))
 }
 
 // The one of two turns that comes before the other.

@@ -1,15 +1,14 @@
 // Route: the tests in order, then the chosen walk's links.
+use super::Arrival;
 use super::RouteFigures;
 use super::Routed;
 use super::arriving::best_into;
-use super::figures::UNREACHED;
 use super::judging::labels_true;
 use super::tests::length_test;
 use super::tests::node_test;
 use super::tracing::trace;
 use book::Checked;
 use book::Counts;
-use book::LinkNumber;
 use book::NodeNumber;
 use book::Refusal;
 use walk::check;
@@ -37,29 +36,22 @@ fn route_onward(
     if origin.0 == destination.0 {
         return Routed::Done(0, 0);
     }
-    let best = best_into(book, counts, destination, link_cost, link_links);
-    if best.cost == UNREACHED {
-        return Routed::Refused(Refusal {
+    match best_into(book, counts, destination, link_cost, link_links) {
+        Arrival::Nothing => Routed::Refused(Refusal {
             number: 14,
             place: 0,
-        });
+        }),
+        Arrival::By(link, cost, count) => {
+            if route.len() < count as usize {
+                return Routed::Refused(Refusal {
+                    number: 15,
+                    place: 0,
+                });
+            }
+            trace(book, counts, turn_back, link_back, link, count, route);
+            Routed::Done(cost, count)
+        }
     }
-    if route.len() < best.links as usize {
-        return Routed::Refused(Refusal {
-            number: 15,
-            place: 0,
-        });
-    }
-    trace(
-        book,
-        counts,
-        turn_back,
-        link_back,
-        LinkNumber(best.back),
-        best.links,
-        route,
-    );
-    Routed::Done(best.cost, best.links)
 }
 
 // Document 01, "What can be asked": the labels are lent for reading only, and of the route buffer only the walk's own places are written.

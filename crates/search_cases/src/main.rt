@@ -5,12 +5,12 @@ mod running;
 mod saying;
 mod small;
 
+use cases::CHAIN_BYTES;
 use cases::LARGEST_BYTES;
 use cases::book_a;
+use cases::put_chain;
 use cases::put_largest;
-use large::CHAIN_BYTES;
 use large::FAN_BYTES;
-use large::put_chain;
 use large::put_fan;
 use refusals::refused;
 use running::run;

@@ -19,7 +19,7 @@ use Rattle.walk.proofs.GoodView.{good-view}
 use Rattle.walk.proofs.LimitedView.{limited-view}
 use Rattle.walk.proofs.ChosenLaws.{route-bounded}
 use Rattle.sheet.specs.Line.{decimal, further, line}
-use Rattle.sheet.specs.Sheet.{originOf, destinationOf, bookOf, Planned, refused, no-walk, done, Says, short, asked, longestLine}
+use Rattle.sheet.specs.Sheet.{originOf, destinationOf, bookOf, Planned, refused, no-walk, done, Says, short, asked, longestLine, routeRoom}
 use Rattle.sheet.proofs.DigitLaws.{length-below}
 use Rattle.sheet.proofs.LineLaws.{further-one, length-two, length-many}
 use Rattle.sheet.proofs.TestLaws.{tests-limited, tests-passed}
@@ -49,7 +49,7 @@ links-bounded count h (l ∷ rest) e =
 
 module _ (book : List ℕ) (r s : ℕ) (counts : Counts) (checked : checkOf book ≡ Good counts) (links : List ℕ) (route : Route (viewOf book counts) r s links) where
   -- the sheet's own route room serves
-  pub room-serves : (length links ≤ 4097) × (costOf (viewOf book counts) links ≤ 191728800)
+  pub room-serves : (length links ≤ routeRoom) × (costOf (viewOf book counts) links ≤ 191728800)
   room-serves = route-bounded (viewOf book counts) (good-view book counts (walksOf book counts) checked) r (limited-view book counts checked) s links route
 
   links-room : length (further links) ≤ 5 * length links

@@ -1,24 +1,21 @@
 -- Input longer than the largest book is answered by its header alone, so what a reader with room for more than that leaves off changes nothing.
 use Prim.Native.Nat.{ℕ, _+_, _<_}
-use mathlib.Core.Path.{_≡_, refl, sym, ap, ap₂, _∙_, subst}
+use mathlib.Core.Path.{_≡_, refl, sym, ap, _∙_, subst}
 use mathlib.Core.List.{List}
 use mathlib.Core.Bool.{Bool, true, false}
 use native.Mathlib.Omega.{arith}
 use native.Mathlib.Decide.{decLt}
-use lib.Dec.{leb, eqb}
-use lib.ListN.{length, getD, take, drop, length-drop}
+use lib.Dec.{eqb}
+use lib.ListN.{length, getD, take, length-drop}
 use lib.Seq.{length-take-le, take-all, getD-take, getD-drop}
 use borrow.Author.Tests.{le-leb, ne-eqb}
-use Rattle.book.specs.declared.Counts.{Counts}
 use Rattle.book.specs.declared.Refusal.{Refusal}
-use Rattle.book.specs.declared.Checked.{Checked}
-use Rattle.book.specs.declared.Checked.the-variants.{Good, Refused}
+use Rattle.book.specs.declared.Checked.the-variants.{Refused}
 use Rattle.book.specs.Number.{numberAt}
 use Rattle.book.specs.Header.{headerBytes, markGood, versionGood, countsOf, countsGood}
 use Rattle.book.specs.Tables.{bookEnd}
 use Rattle.book.specs.Check.{refusal, unless, tablesIn, checkOf}
 use Rattle.book.proofs.Limits.{limits}
-use Rattle.walk.proofs.theory.Laws.{clash}
 use Rattle.sheet.specs.Sheet.{beforeBook, originOf, destinationOf, bookOf, Planned, Says, short, asked}
 use Rattle.sheet.proofs.Determined.{plan-one}
 use Rattle.sheet.proofs.Plans.{refusalFields, book-refused}
@@ -116,3 +113,7 @@ module _ (room : ℕ) (enough : largestBook + beforeBook < room) (input : List �
       by : Dec (room < length input) → Says input fields
       by (yes past) = past-says past fields says
       by (no h) = subst (λ (x : List ℕ). Says x fields) (take-all room input (omega arith)) says
+
+-- the printer's reader has room for 65,536 bytes
+pub read-says : (input fields : List ℕ) → Says (take 65536 input) fields → Says input fields
+read-says input fields says = front-says 65536 (omega arith) input fields says

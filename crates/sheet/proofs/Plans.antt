@@ -18,14 +18,14 @@ use Rattle.search.specs.declared.Searched.{Searched}
 use Rattle.search.specs.declared.Searched.the-variants.{Done as SearchDone, Refused as SearchRefused}
 use Rattle.search.specs.declared.Routed.{Routed}
 use Rattle.search.specs.declared.Routed.the-variants.{Done as RouteDone, Refused as RouteRefused}
-use Rattle.search.specs.Tests.{nodeTest, lengthTest}
+use Rattle.search.specs.Tests.{nodeTest, bothNodes, lengthTest}
 use Rattle.search.specs.Search.{Search, searchTests, refused as search-refused, done as search-done}
 use Rattle.search.specs.Route.{routeTests, no-walk as none-leads, no-room, done as routed, Routing, refused as route-refused, untrue, onward}
 use Rattle.search.specs.steps.Tables.{Sized}
 use Rattle.search.proofs.Determined.{true-sized}
 use Rattle.search.proofs.Tested.{node-passed, length-passed, lengths-fit, Lent, search-passed}
 use Rattle.sheet.specs.declared.Sheeted.the-variants.{Line}
-use Rattle.sheet.specs.Sheet.{beforeBook, originOf, destinationOf, bookOf, testsOf, Planned, refused, no-walk, done, asked, longestLine, Sheet, printed}
+use Rattle.sheet.specs.Sheet.{beforeBook, originOf, destinationOf, bookOf, Planned, refused, no-walk, done, asked, longestLine, routeRoom, Sheet, printed}
 use Rattle.sheet.specs.steps.Asking.{Ready, Labelled, LinePut}
 use Rattle.sheet.proofs.TestLaws.{tests-passed}
 use Rattle.sheet.proofs.Longest.{room-serves}
@@ -96,18 +96,18 @@ module _ (book : List ℕ) (r s : ℕ) (turns links : Table) where
     lent : Lent book counts turns links
     lent = search-passed book r turns links counts (labelled .tested)
 
-    own-counts : (own : Counts) → testsOf book r s ≡ Good own → own ≡ counts
+    own-counts : (own : Counts) → bothNodes book r s ≡ Good own → own ≡ counts
     own-counts own h =
         let checked = tests-passed book r s own h in
         cc (checked, lent .0)
 
-    nodes-passed : (own : Counts) → routeTests book r s turns links ≡ Good own → testsOf book r s ≡ Good own
-    nodes-passed own e = length-passed (testsOf book r s) turns links own e .0
+    nodes-passed : (own : Counts) → routeTests book r s turns links ≡ Good own → bothNodes book r s ≡ Good own
+    nodes-passed own e = length-passed (bothNodes book r s) turns links own e .0
 
-    pub route-refuses : (buffer after : List ℕ) (answer : Routed) (found : Refusal) → 4097 ≤ length buffer → answer ≡ RouteRefused found → Routing book r s turns links buffer answer after → Planned book r s (refusalFields found)
+    pub route-refuses : (buffer after : List ℕ) (answer : Routed) (found : Refusal) → routeRoom ≤ length buffer → answer ≡ RouteRefused found → Routing book r s turns links buffer answer after → Planned book r s (refusalFields found)
     route-refuses buffer after answer found room told (route-refused own e a b) =
         let same : own ≡ found = cc (told, a) in
-        refused own (before-lengths (testsOf book r s) turns links counts (lent .1 .0) (lent .1 .1) own-counts own e) (ap refusalFields (sym same))
+        refused own (before-lengths (bothNodes book r s) turns links counts (lent .1 .0) (lent .1 .1) own-counts own e) (ap refusalFields (sym same))
     route-refuses buffer after answer found room told (untrue own e false a b) =
         let same : counts ≡ own = sym (own-counts own (nodes-passed own e)) in
         absurd (false (subst (λ (x : Counts). TrueLabels (viewOf book x) r turns links) same (labelled .labels)))

@@ -18,9 +18,8 @@ use Rattle.book.specs.Check.{refusal, unless, unlessAllGood, tablesOf, tablesIn
 use Rattle.book.proofs.Limits.{limits}
 use Rattle.book.proofs.FirstBad.{first-bad}
 use Rattle.walk.proofs.theory.Laws.{clash}
-use Rattle.search.specs.Tests.{nodeTest}
+use Rattle.search.specs.Tests.{nodeTest, bothNodes}
 use Rattle.search.proofs.Tested.{node-passed}
-use Rattle.sheet.specs.Sheet.{testsOf}
 
 -- the largest count of entries, so no place is above it
 abbrev mostPlace : ℕ
@@ -74,8 +73,8 @@ node-limited (Good counts) n h = unless-limited 10 (ltb n (counts .nodes)) (refu
 
 -- the tests of a book, and of both nodes after it
 module _ (book : List ℕ) (r s : ℕ) where
-  pub tests-limited : Limited 10 (testsOf book r s)
+  pub tests-limited : Limited 10 (bothNodes book r s)
   tests-limited = node-limited _ _ (node-limited _ _ (λ found e. (omega (arith, check-limited book found e .0), check-limited book found e .1)))
 
-  pub tests-passed : (counts : Counts) → testsOf book r s ≡ Good counts → checkOf book ≡ Good counts
+  pub tests-passed : (counts : Counts) → bothNodes book r s ≡ Good counts → checkOf book ≡ Good counts
   tests-passed counts h = node-passed (checkOf book) r counts (node-passed (nodeTest (checkOf book) r) s counts h .0) .0

@@ -5,14 +5,12 @@ use mathlib.Core.List.{List, [], _∷_, _++_}
 use lib.ListN.{length, drop}
 use Rattle.book.specs.declared.Counts.{Counts}
 use Rattle.book.specs.declared.Refusal.{Refusal}
-use Rattle.book.specs.declared.Checked.{Checked}
 use Rattle.book.specs.declared.Checked.the-variants.{Good, Refused}
 use Rattle.book.specs.Number.{numberAt}
-use Rattle.book.specs.Check.{checkOf}
 use Rattle.walk.specs.View.{viewOf}
 use Rattle.walk.specs.Walks.{costOf}
 use Rattle.walk.specs.Labels.{NodeWalk, Route}
-use Rattle.search.specs.Tests.{nodeTest}
+use Rattle.search.specs.Tests.{bothNodes}
 use Rattle.sheet.specs.declared.Sheeted.{Sheeted}
 use Rattle.sheet.specs.declared.Sheeted.the-variants.{Line, NoRoom}
 use Rattle.sheet.specs.Line.{line}
@@ -30,15 +28,11 @@ destinationOf input = numberAt input 2
 abbrev pub bookOf : List ℕ → List ℕ
 bookOf input = drop beforeBook input
 
--- tests 1 to 10: the book, then both nodes
-abbrev pub testsOf : List ℕ → ℕ → ℕ → Checked
-testsOf book r s = nodeTest (nodeTest (checkOf book) r) s
-
 -- the fields for the way from r to s: a refusal's number and place, or 0, cost, number of links, then the links
 pub data Planned (book : List ℕ) (r s : ℕ) (fields : List ℕ) : Type 0 where
-  refused : (found : Refusal) → testsOf book r s ≡ Refused found → fields ≡ found .number ∷ found .place ∷ [] → Planned book r s fields
-  no-walk : (counts : Counts) → testsOf book r s ≡ Good counts → ((links : List ℕ) → NodeWalk (viewOf book counts) r s links → ⊥) → fields ≡ 14 ∷ 0 ∷ [] → Planned book r s fields
-  done : (counts : Counts) → testsOf book r s ≡ Good counts → (links : List ℕ) → Route (viewOf book counts) r s links → fields ≡ 0 ∷ costOf (viewOf book counts) links ∷ length links ∷ links → Planned book r s fields
+  refused : (found : Refusal) → bothNodes book r s ≡ Refused found → fields ≡ found .number ∷ found .place ∷ [] → Planned book r s fields
+  no-walk : (counts : Counts) → bothNodes book r s ≡ Good counts → ((links : List ℕ) → NodeWalk (viewOf book counts) r s links → ⊥) → fields ≡ 14 ∷ 0 ∷ [] → Planned book r s fields
+  done : (counts : Counts) → bothNodes book r s ≡ Good counts → (links : List ℕ) → Route (viewOf book counts) r s links → fields ≡ 0 ∷ costOf (viewOf book counts) links ∷ length links ∷ links → Planned book r s fields
 
 -- the fields for an input: fewer than 4 bytes print 1 and 0
 pub data Says (input fields : List ℕ) : Type 0 where
@@ -48,6 +42,10 @@ pub data Says (input fields : List ℕ) : Type 0 where
 -- a 0, a cost of 9 digits, a count of 4, up to 4,097 links of 4, a blank before each but the first, and the newline
 abbrev pub longestLine : ℕ
 longestLine = 20502
+
+-- the printer's own route room
+abbrev pub routeRoom : ℕ
+routeRoom = 4097
 
 -- what a sheet answers, and leaves in the text that it was lent: a text shorter than the longest line is left as it was
 pub data Sheet (input text : List ℕ) (answer : Sheeted) (after : List ℕ) : Type 0 where

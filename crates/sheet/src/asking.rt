@@ -7,13 +7,13 @@ use super::figures::MOST_TURNS;
 use super::figures::ROUTE_ROOM;
 use super::lines::put_refusal;
 use super::lines::put_route;
-use super::numbers::number_at;
 use book::Checked;
 use book::Counts;
 use book::NodeNumber;
 use search::Routed;
 use search::Searched;
 use search::check;
+use search::number_at;
 use search::route;
 use search::search;
 ghost use mathlib.Core.Path.{_≡_};
@@ -22,7 +22,7 @@ ghost use lib.ListN.{length};
 ghost use Rattle.book.specs.declared.Checked.the-variants.{Good};
 ghost use Rattle.book.specs.Check.{checkOf};
 ghost use Rattle.search.specs.steps.Tables.{three};
-ghost use Rattle.sheet.specs.Sheet.{longestLine, Sheet};
+ghost use Rattle.sheet.specs.Sheet.{longestLine, routeRoom, Sheet};
 ghost use Rattle.sheet.specs.steps.Asking.{Ready, Labelled, LinePut};
 
 // The route's line, from labels that a search has left.
@@ -40,7 +40,7 @@ fn print_route(
     text: &mut [u8],
 ) -> usize
     requires { ⌜ Labelled (now book) (origin .0) (three (now «turn_cost») (now «turn_links») (now «turn_back»)) (three (now «link_cost») (now «link_links») (now «link_back»)) ⌝ }
-    requires { ⌜ (4097 ≤ length (now links)) × (longestLine ≤ length (now text)) ⌝ }
+    requires { ⌜ (routeRoom ≤ length (now links)) × (longestLine ≤ length (now text)) ⌝ }
     ensures { λ r. ⌜ LinePut (now (book .entry)) (origin .0) (destination .0) (now (text .entry)) (now (text .exit)) r ⌝ }
 {
     match route(
@@ -75,7 +75,7 @@ fn print_search(
     text: &mut [u8],
 ) -> usize
     requires { ⌜ Ready (now book) (three (now «turn_cost») (now «turn_links») (now «turn_back»)) (three (now «link_cost») (now «link_links») (now «link_back»)) ⌝ }
-    requires { ⌜ (4097 ≤ length (now links)) × (longestLine ≤ length (now text)) ⌝ }
+    requires { ⌜ (routeRoom ≤ length (now links)) × (longestLine ≤ length (now text)) ⌝ }
     ensures { λ r. ⌜ LinePut (now (book .entry)) (origin .0) (destination .0) (now (text .entry)) (now (text .exit)) r ⌝ }
 {
     match search(

@@ -3,7 +3,6 @@ mod asking;
 mod decimals;
 mod figures;
 mod lines;
-mod numbers;
 
 pub use asking::sheet;
 

@@ -8,6 +8,9 @@ ghost use lib.ListN.{length, drop};
 ghost use Rattle.sheet.specs.Line.{further, line};
 ghost use Rattle.sheet.specs.steps.Storing.{Stored};
 
+// What ends every line.
+const NEWLINE: u8 = b'\n';
+
 fn widened(n: u16) -> usize
     ensures { λ r. ⌜ r ≡ n ⌝ }
 {
@@ -28,10 +31,10 @@ fn put_links(text: &mut [u8], at: usize, links: &[u16]) -> usize
     ensures { λ r. ⌜ Stored (now (text .entry)) at (further (now (links .entry))) (now (text .exit)) r ⌝ }
 {
     let mut next = at;
-    let mut k = 0;
-    while k < links.len() {
-        next = put_field(text, next, widened(links[k]));
-        k += 1;
+    let mut passed = 0;
+    while passed < links.len() {
+        next = put_field(text, next, widened(links[passed]));
+        passed += 1;
     }
     next
 }
@@ -42,7 +45,7 @@ pub fn put_refusal(text: &mut [u8], number: u8, place: usize) -> usize
 {
     let at = put_decimal(text, 0, number as usize);
     let at = put_field(text, at, place);
-    put_byte(text, at, b'\n')
+    put_byte(text, at, NEWLINE)
 }
 
 pub fn put_route(text: &mut [u8], cost: u32, links: &[u16]) -> usize
@@ -53,5 +56,5 @@ pub fn put_route(text: &mut [u8], cost: u32, links: &[u16]) -> usize
     let at = put_field(text, at, cost as usize);
     let at = put_field(text, at, links.len());
     let at = put_links(text, at, links);
-    put_byte(text, at, b'\n')
+    put_byte(text, at, NEWLINE)
 }

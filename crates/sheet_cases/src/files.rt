@@ -1,6 +1,6 @@
 // Books in files: three from figures of the source documents, and one with the longest route.
 use super::running::put_nodes;
-use super::running::run_front;
+use super::running::run_front_beyond;
 use cases::say;
 
 // What a file's book takes of the input, with the nodes before it.
@@ -11,27 +11,27 @@ fn with_nodes(length: usize) -> usize {
     65536
 }
 
-fn read_book(fd: i32, input: &mut [u8]) -> usize {
+fn read_book(file: i32, input: &mut [u8]) -> usize {
     let from = 4;
     let end = input.len();
     if end < from {
         return 0;
     }
-    with_nodes(io::read_full(fd, &mut input[from..end]))
+    with_nodes(io::read_full(file, &mut input[from..end]))
 }
 
 fn run_file(name: &[u8], origin: u16, destination: u16, expected: &[u8]) {
-    let fd = os::open_read(name);
-    if fd < 0 {
+    let file = os::open_read(name);
+    if file < 0 {
         say(name);
         say(b" cannot be opened\n");
         return;
     }
     let mut input = [0u8; 65536];
     put_nodes(&mut input, origin, destination);
-    let length = read_book(fd, &mut input);
-    libc::close(fd);
-    run_front(name, &input, length, expected);
+    let length = read_book(file, &mut input);
+    libc::close(file);
+    run_front_beyond(name, &input, length, expected);
 }
 
 pub fn books() {

@@ -3,8 +3,8 @@ use super::running::MARK;
 use super::running::input_a;
 use super::running::put_nodes;
 use super::running::run;
+use super::running::run_beyond;
 use super::running::run_front;
-use super::running::run_in;
 use cases::put;
 use cases::put_largest;
 use cases::say;
@@ -105,15 +105,15 @@ fn longer_still() {
 fn texts() {
     let input = input_a(0, 3);
     let mut short = [MARK; 20501];
-    run_in(
+    run_beyond(
         b"a text of 20501 bytes",
         &input,
         &mut short,
         b"lines of up to 20502 bytes",
     );
-    run_in(b"a text of no byte", &input, &mut short[..0], b"the same");
+    run_beyond(b"a text of no byte", &input, &mut short[..0], b"the same");
     let mut enough = [MARK; 20502];
-    run_in(
+    run_beyond(
         b"a text of 20502 bytes",
         &input,
         &mut enough,

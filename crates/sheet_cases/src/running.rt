@@ -3,6 +3,7 @@ use cases::put;
 use cases::put_book_a;
 use cases::say;
 use cases::say_expected;
+use cases::say_expected_beyond;
 use cases::say_name;
 use sheet::Sheeted;
 use sheet::sheet;
@@ -41,18 +42,27 @@ fn say_front(text: &[u8], end: usize) {
     }
 }
 
-// The case and what document 01 says, then the sheet's own line.
-pub fn run_in(name: &[u8], input: &[u8], text: &mut [u8], expected: &[u8]) {
+// What is expected, of document 01 or beyond it.
+fn say_awaited(document: bool, expected: &[u8]) {
+    if document {
+        say_expected(expected);
+        return;
+    }
+    say_expected_beyond(expected);
+}
+
+// The case and what is expected, then the sheet's own line.
+fn run_in(name: &[u8], input: &[u8], text: &mut [u8], document: bool, expected: &[u8]) {
     say_name(name);
     match sheet(input, text) {
         Sheeted::NoRoom => {
             say(b"no room, ");
             say_kept(text, 0);
-            say_expected(expected);
+            say_awaited(document, expected);
         }
         Sheeted::Line(end) => {
             say_kept(text, end);
-            say_expected(expected);
+            say_awaited(document, expected);
             say_front(text, end);
         }
     }
@@ -60,13 +70,26 @@ pub fn run_in(name: &[u8], input: &[u8], text: &mut [u8], expected: &[u8]) {
 
 pub fn run(name: &[u8], input: &[u8], expected: &[u8]) {
     let mut text = [MARK; LONGEST];
-    run_in(name, input, &mut text, expected);
+    run_in(name, input, &mut text, true, expected);
+}
+
+// Document 01 says nothing of the text's room.
+pub fn run_beyond(name: &[u8], input: &[u8], text: &mut [u8], expected: &[u8]) {
+    run_in(name, input, text, false, expected);
 }
 
 // The first bytes of an input.
 pub fn run_front(name: &[u8], input: &[u8], length: usize, expected: &[u8]) {
     if length <= input.len() {
         run(name, &input[..length], expected);
+    }
+}
+
+// The same for a book that is not document 01's.
+pub fn run_front_beyond(name: &[u8], input: &[u8], length: usize, expected: &[u8]) {
+    if length <= input.len() {
+        let mut text = [MARK; LONGEST];
+        run_beyond(name, &input[..length], &mut text, expected);
     }
 }
 

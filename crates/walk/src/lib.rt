@@ -14,6 +14,7 @@ pub use given::cost_of;
 pub use offered::check;
 pub use offered::link_from;
 pub use offered::link_to;
+pub use offered::number_at;
 pub use offered::seconds_good;
 pub use offered::turn_first;
 pub use offered::turn_second;

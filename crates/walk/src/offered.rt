@@ -5,8 +5,10 @@ use book::LinkNumber;
 use book::NodeNumber;
 use book::TurnNumber;
 ghost use mathlib.Core.Path.{_≡_};
-ghost use Prim.Native.Nat.{_<_};
+ghost use Prim.Native.Nat.{_+_, _<_};
+ghost use lib.ListN.{length};
 ghost use Rattle.book.specs.declared.Checked.the-variants.{Good};
+ghost use Rattle.book.specs.Number.{numberAt};
 ghost use Rattle.book.specs.Tables.{linkTable, turnTable};
 ghost use Rattle.book.specs.Entries.{linkFrom, linkTo, turnFirst, turnSecond, secondsGood};
 ghost use Rattle.book.specs.Check.{checkOf};
@@ -16,6 +18,13 @@ pub fn check(book: &[u8]) -> Checked
     ensures { λ r. ⌜ r ≡ checkOf (now (book .entry)) ⌝ }
 {
     book::check(book)
+}
+
+pub fn number_at(bytes: &[u8], at: usize) -> u16
+    requires { ⌜ at + 1 < length (now bytes) ⌝ }
+    ensures { λ r. ⌜ r ≡ numberAt (now (bytes .entry)) at ⌝ }
+{
+    book::number_at(bytes, at)
 }
 
 pub fn link_from(book: &[u8], counts: Counts, link: LinkNumber) -> NodeNumber

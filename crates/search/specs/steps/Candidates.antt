@@ -22,13 +22,13 @@ pub record Gathered (cost settled list : List ℕ) (count : ℕ) : Type 0 where
   pub within : count ≤ length list
   pub candidates : take count list ≡ candidatesBelow cost settled (length cost)
 
--- what a turn offers: its figures, and itself as the back
-abbrev pub turnLabel : List ℕ → List ℕ → ℕ → Entry
-turnLabel cost links turn = record { cost = getD cost turn 0; links = getD links turn 0; back = turn }
+-- what a turn or a link offers: its figures, and its own number as the back
+abbrev pub ownLabel : List ℕ → List ℕ → ℕ → Entry
+ownLabel cost links own = record { cost = getD cost own 0; links = getD links own 0; back = own }
 
 -- so turns come by cost, then links, then number
 abbrev pub comesBefore : List ℕ → List ℕ → ℕ → ℕ → Bool
-comesBefore cost links one other = goesAhead (turnLabel cost links one) (turnLabel cost links other)
+comesBefore cost links one other = goesAhead (ownLabel cost links one) (ownLabel cost links other)
 
 abbrev pub chosenIf : Bool → ℕ → ℕ → ℕ
 chosenIf true one other = one

@@ -11,7 +11,7 @@ use Rattle.walk.specs.Labels.{Entry, Table, entryAt, noEntry}
 use Rattle.walk.specs.steps.ViewNet.{mayFollow, isNone}
 use Rattle.search.specs.steps.Tables.{standsAs, goesAhead}
 use Rattle.search.specs.steps.Starts.{startEntry, aloneEntry}
-use Rattle.search.specs.steps.Candidates.{turnLabel}
+use Rattle.search.specs.steps.Candidates.{ownLabel}
 use Rattle.search.specs.steps.Passing.{onwardTo}
 
 -- the test holds of every number below n
@@ -48,7 +48,7 @@ backLeads U turns t e =
 unfoldable pub reachedStands : View → Entry → Table → Table → ℕ → Bool
 reachedStands U start turns links t =
     (standsAs (entryAt turns t) start || backLeads U turns t (entryAt turns t))
-    && (not (goesAhead (turnLabel (turns .cost) (turns .links) t) (entryAt links (U .second t)))
+    && (not (goesAhead (ownLabel (turns .cost) (turns .links) t) (entryAt links (U .second t)))
     && everyBelow (λ v. not (overtaken U t (entryAt turns t .cost) (entryAt turns t .links) turns v)) (U .turns))
 
 unfoldable pub turnStands : View → ℕ → Table → Table → ℕ → Bool
@@ -61,7 +61,7 @@ unfoldable pub endLeads : View → List ℕ → List ℕ → ℕ → Entry → B
 endLeads U cost links l e =
     ltb (e .back) (U .turns)
     && (not (eqb (getD cost (e .back) 0) (noEntry .cost))
-    && (eqb (U .second (e .back)) l && standsAs e (turnLabel cost links (e .back))))
+    && (eqb (U .second (e .back)) l && standsAs e (ownLabel cost links (e .back))))
 
 unfoldable pub linkStands : View → ℕ → List ℕ → List ℕ → Table → ℕ → Bool
 linkStands U r cost links table l =

@@ -7,10 +7,10 @@ use Rattle.route_cases.proofs.books.put_all.Statement.{statement}
 use Rattle.route_cases.proofs.books.put_all.Tie as tie
 
 abbrev Inv-numbers : tie.InvT-numbers
-Inv-numbers bytes₀ at numbers at₀ i₀ bytes at' i = length bytes ≡ length bytes₀
+Inv-numbers bytes₀ at numbers at₀ passed₀ bytes at' passed = length bytes ≡ length bytes₀
 
 abbrev μ-numbers : tie.MeasureT-numbers
-μ-numbers bytes₀ at numbers at₀ i₀ bytes at' i = length numbers - i
+μ-numbers bytes₀ at numbers at₀ passed₀ bytes at' passed = length numbers - passed
 
 numbers-holds : tie.Need-numbers-holds Inv-numbers μ-numbers
 numbers-holds c = search needs
@@ -24,8 +24,8 @@ shared-slice-read-put c = search needs
 put-requires : tie.Need-put-requires Inv-numbers μ-numbers
 put-requires c κs = search needs
 
-add-i : tie.Need-add-i Inv-numbers μ-numbers
-add-i c = search needs
+add-passed : tie.Need-add-passed Inv-numbers μ-numbers
+add-passed c = search needs
 
 numbers-less : tie.Need-numbers-less Inv-numbers μ-numbers
 numbers-less c = search needs
@@ -49,7 +49,7 @@ put-all-spec =
     mul-put
     shared-slice-read-put
     put-requires
-    add-i
+    add-passed
     numbers-less
     numbers-again
     same-length

@@ -23,8 +23,8 @@ link-to-requires c κs = search needs
 returns-2 : tie.Need-returns-2
 returns-2 c = rw (ne-eqb _ _ (c .before .before .before .before .if1 .left), ← c .before .before .before .link-to .ensures, ne-eqb _ _ (c .if2 .taken))
 
-turn-label-requires : tie.Need-turn-label-requires
-turn-label-requires c κs = search needs
+own-label-requires : tie.Need-own-label-requires
+own-label-requires c κs = search needs
 
 goes-ahead-requires : tie.Need-goes-ahead-requires
 goes-ahead-requires c κs = search needs
@@ -32,13 +32,13 @@ goes-ahead-requires c κs = search needs
 returns-3 : tie.Need-returns-3
 returns-3 c =
     let entering = c .before .before .before in
-    let label = c .before .before .turn-label .ensures in
+    let label = c .before .before .own-label .ensures in
     rw (ne-eqb _ _ (entering .before .before .before .before .if1 .left), ← entering .before .before .before .link-to .ensures, eq-eqb _ _ (entering .if2 .left), ← label, sym (c .before .goes-ahead .ensures) ∙ c .if3 .taken)
 
 returns-4 : tie.Need-returns-4
 returns-4 c =
     let entering = c .before .before .before in
-    let label = c .before .before .turn-label .ensures in
+    let label = c .before .before .own-label .ensures in
     rw (ne-eqb _ _ (entering .before .before .before .before .if1 .left), ← entering .before .before .before .link-to .ensures, eq-eqb _ _ (entering .if2 .left), ← label, sym (c .before .goes-ahead .ensures) ∙ c .if3 .left)
 
 pub better-of-spec : {M : Type 1} → statement M
@@ -51,7 +51,7 @@ better-of-spec =
     returns
     link-to-requires
     returns-2
-    turn-label-requires
+    own-label-requires
     goes-ahead-requires
     returns-3
     returns-4)

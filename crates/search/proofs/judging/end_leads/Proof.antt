@@ -24,15 +24,15 @@ mul-result c = search needs
 shared-slice-read-result : tie.Need-shared-slice-read-result
 shared-slice-read-result c = search needs
 
-turn-label-requires : tie.Need-turn-label-requires
-turn-label-requires c κs = search needs
+own-label-requires : tie.Need-own-label-requires
+own-label-requires c κs = search needs
 
 same-label-requires : tie.Need-same-label-requires
 same-label-requires c κs = search needs
 
 returns-2 : tie.Need-returns-2
 unfolding endLeads
-returns-2 c = rw (lt-ltb _ _ (c .before .before .before .before .before .before .before .if1 .left), ← c .before .before .before .before .before .before .turn-second .ensures, ← c .before .turn-label .ensures, c .same-label .ensures)
+returns-2 c = rw (lt-ltb _ _ (c .before .before .before .before .before .before .before .if1 .left), ← c .before .before .before .before .before .before .turn-second .ensures, ← c .before .own-label .ensures, c .same-label .ensures)
 
 pub end-leads-spec : {M : Type 1} → statement M
 end-leads-spec =
@@ -44,6 +44,6 @@ end-leads-spec =
     cast-result
     mul-result
     shared-slice-read-result
-    turn-label-requires
+    own-label-requires
     same-label-requires
     returns-2)

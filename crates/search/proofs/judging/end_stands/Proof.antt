@@ -9,8 +9,8 @@ use Rattle.search.proofs.judging.end_stands.Tie as tie
 turn-second-requires : tie.Need-turn-second-requires
 turn-second-requires c κs = search needs
 
-turn-label-requires : tie.Need-turn-label-requires
-turn-label-requires c κs = search needs
+own-label-requires : tie.Need-own-label-requires
+own-label-requires c κs = search needs
 
 cast-label-at : tie.Need-cast-label-at
 cast-label-at c = search needs
@@ -25,14 +25,14 @@ goes-ahead-requires : tie.Need-goes-ahead-requires
 goes-ahead-requires c κs = search needs
 
 returns : tie.Need-returns
-returns c = rw (← c .before .before .before .before .turn-second .ensures, ← c .before .before .before .turn-label .ensures, ← c .before .label-at .ensures, c .goes-ahead .ensures)
+returns c = rw (← c .before .before .before .before .turn-second .ensures, ← c .before .before .before .own-label .ensures, ← c .before .label-at .ensures, c .goes-ahead .ensures)
 
 pub end-stands-spec : {M : Type 1} → statement M
 end-stands-spec =
     tie.close
     (tie.spec
     turn-second-requires
-    turn-label-requires
+    own-label-requires
     cast-label-at
     label-at-requires
     goes-ahead-requires

@@ -1,4 +1,4 @@
--- After k links the fields of the first k are stored.
+-- The fields of the links passed are stored.
 use borrow.Author.Needs.{needs}
 use Prim.Native.Nat.{ℕ, _-_, _≤_}
 use mathlib.Core.Path.{ap}
@@ -13,10 +13,10 @@ use Rattle.sheet.proofs.lines.put_links.Statement.{statement}
 use Rattle.sheet.proofs.lines.put_links.Tie as tie
 
 abbrev Inv-loop : tie.InvT-loop
-Inv-loop text₀ at links next₀ k₀ text next k = Stored text₀ at (further (take k links)) text next × (k ≤ length links)
+Inv-loop text₀ at links next₀ passed₀ text next passed = Stored text₀ at (further (take passed links)) text next × (passed ≤ length links)
 
 abbrev μ-loop : tie.MeasureT-loop
-μ-loop text₀ at links next₀ k₀ text next k = length links - k
+μ-loop text₀ at links next₀ passed₀ text next passed = length links - passed
 
 loop-holds : tie.Need-loop-holds Inv-loop μ-loop
 loop-holds c = (none-stored, omega arith)
@@ -32,12 +32,12 @@ widened-requires c κs = search needs
 
 put-field-requires : tie.Need-put-field-requires Inv-loop μ-loop
 put-field-requires c κs =
-    let within = taken-within (c .before .before .before .before .before .before .before .args .links .now) (c .before .before .before .before .loop .k) (c .before .before .before .loop-test .taken) in
+    let within = taken-within (c .before .before .before .before .before .before .before .args .links .now) (c .before .before .before .before .loop .passed) (c .before .before .before .loop-test .taken) in
     let field = ap (λ (n : ℕ). length (further (n ∷ []))) (c .widened .ensures) in
     omega (arith, stored-length (c .before .before .before .before .loop .inv .0))
 
-add-k : tie.Need-add-k Inv-loop μ-loop
-add-k c = search needs
+add-passed : tie.Need-add-passed Inv-loop μ-loop
+add-passed c = search needs
 
 loop-less : tie.Need-loop-less Inv-loop μ-loop
 loop-less c = search needs
@@ -62,7 +62,7 @@ put-links-spec =
     shared-slice-read-widened
     widened-requires
     put-field-requires
-    add-k
+    add-passed
     loop-less
     loop-again
     same-length

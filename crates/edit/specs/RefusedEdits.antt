@@ -1,0 +1,95 @@
+-- Document 01, "How far the contracts go" and "Habits that give a neat wrong sheet": what a wrong edit would answer and leave, on book A.
+use Prim.Native.Nat.{ℕ}
+use mathlib.Core.List.{List, [], _∷_, map}
+use Rattle.book.specs.Entries.{barred}
+use Rattle.book.specs.BookA.{bookA}
+use Rattle.walk.specs.Labels.{Entry, Table, noEntry, startBack}
+use Rattle.walk.specs.Cases.{closed, edited, entry}
+use Rattle.edit.specs.declared.Edited.the-variants.{Done}
+use Rattle.edit.specs.Edit.{Edit}
+
+-- a book and its label entries
+pub record Labelled : Type 0 where
+  pub book : List ℕ
+  pub turns : List Entry
+  pub links : List Entry
+
+-- the two counts of an edit that says it is done, and what it leaves
+pub record Outcome : Type 0 where
+  pub altered-turns : ℕ
+  pub altered-links : ℕ
+  pub after : Labelled
+
+-- an edit from origin 0: of a book and its labels, a turn, its new walk, what is right and what is claimed
+pub record Row : Type 0 where
+  pub before : Labelled
+  pub turn : ℕ
+  pub walk : ℕ
+  pub right : Outcome
+  pub claimed : Outcome
+
+-- book A with P1 and P2
+abbrev pub given : Labelled
+given =
+    record {
+      book = bookA;
+      turns = entry 90 2 startBack ∷ entry 342 5 3 ∷ entry 153 3 0 ∷ entry 207 4 2 ∷ entry 442 2 startBack ∷ [];
+      links = entry 40 1 startBack ∷ entry 90 2 0 ∷ entry 342 5 1 ∷ entry 153 3 2 ∷ entry 403 1 startBack ∷ [];
+    }
+
+-- book A with turn 3 closed, as in P5: turns 1 and 3 and link 2 differ
+abbrev pub shut : Labelled
+shut =
+    record {
+      book = edited bookA (closed 3 ∷ []);
+      turns = entry 90 2 startBack ∷ noEntry ∷ entry 153 3 0 ∷ noEntry ∷ entry 442 2 startBack ∷ [];
+      links = entry 40 1 startBack ∷ entry 90 2 0 ∷ entry 442 2 4 ∷ entry 153 3 2 ∷ entry 403 1 startBack ∷ [];
+    }
+
+-- the closed turn's own entry wiped, those further on as they were
+abbrev pub wiped : Labelled
+wiped =
+    record {
+      book = edited bookA (closed 3 ∷ []);
+      turns = entry 90 2 startBack ∷ entry 342 5 3 ∷ entry 153 3 0 ∷ noEntry ∷ entry 442 2 startBack ∷ [];
+      links = given .links;
+    }
+
+abbrev pub leaving : ℕ → ℕ → Labelled → Outcome
+leaving turns links after = record { altered-turns = turns; altered-links = links; after = after }
+
+-- turn 3 of book A is closed
+abbrev pub closing : Outcome → Row
+closing claimed = record { before = given; turn = 3; walk = barred; right = leaving 2 1 shut; claimed = claimed }
+
+-- and then set back to its 4 seconds
+abbrev pub reopening : Outcome → Row
+reopening claimed = record { before = shut; turn = 3; walk = 4; right = leaving 2 1 given; claimed = claimed }
+
+-- the edit that returns success only may answer any counts
+abbrev pub wrongEdits : ℕ → ℕ → List Row
+wrongEdits any-turns any-links =
+    -- an edit that does nothing
+    closing (leaving 2 1 given)
+    ∷ closing (leaving 0 0 given)
+    -- one that works the first time and later returns success only
+    ∷ reopening (leaving any-turns any-links shut)
+    -- one that invents the counts
+    ∷ closing (leaving 5 5 shut)
+    -- one that closes a change by wiping its own entry only
+    ∷ closing (leaving 1 0 wiped)
+    ∷ []
+
+-- entries as they lie in lent buffers
+abbrev pub asTable : List Entry → Table
+asTable entries = record { cost = map (λ (e : Entry). e .cost) entries; links = map (λ (e : Entry). e .links) entries; back = map (λ (e : Entry). e .back) entries }
+
+-- the contract allows an outcome of the row's edit
+abbrev pub Allows : Row → Outcome → Type 0
+Allows row outcome =
+    Edit (row .before .book) 0 (row .turn) (row .walk) (asTable (row .before .turns)) (asTable (row .before .links))
+    (Done (outcome .altered-turns) (outcome .altered-links)) (outcome .after .book) (asTable (outcome .after .turns)) (asTable (outcome .after .links))
+
+-- it allows what is right and not what is claimed
+abbrev pub Refused : Row → Type 0
+Refused row = Allows row (row .right) × (Allows row (row .claimed) → ⊥)

@@ -16,7 +16,7 @@ use Rattle.walk.specs.View.{View, viewOf, walksOf, listedIn, upTo}
 use Rattle.walk.specs.Walks.{lookUp}
 use Rattle.walk.specs.Labels.{Entry, Table, entryAt, noEntry, TrueTable, TrueLabels}
 use Rattle.walk.specs.Counting.{sameEntry, differing}
-use Rattle.walk.specs.Cases.{Claim, turnsAre, linksAre, Table as Rows}
+use Rattle.walk.specs.Cases.{All, Claim, turnsAre, linksAre, Table as Rows}
 use Rattle.walk.specs.steps.Rows.{roundsOf}
 use Rattle.walk.proofs.theory.Laws.{clash}
 use Rattle.walk.proofs.GoodView.{good-view}
@@ -26,8 +26,7 @@ use Rattle.search.specs.Tests.{nodeTest, fits, lengthTest}
 use Rattle.edit.specs.declared.Edited.{Edited}
 use Rattle.edit.specs.declared.Edited.the-variants.{Done}
 use Rattle.edit.specs.Edit.{turnTest, editGivenBack, done}
-use Rattle.edit.specs.Demands.{Each}
-use Rattle.edit.specs.RefusedEdits.{Labelled, Outcome, Row, given, shut, wiped, leaving, closing, reopening, wrongEdits, asTable, Allows, Refused}
+use Rattle.edit.specs.RefusedEdits.{Labelled, Outcome, Row, given, shut, wiped, leaving, closing, reopening, wrongEdits, asTable, Allows, RightAlone}
 use Rattle.edit.proofs.Determined.{edit-determined}
 
 mapped-length : (f : Entry → ℕ) (entries : List Entry) → length (map f entries) ≡ length entries
@@ -95,7 +94,7 @@ numbersIn outcome = numbersOf (Done (outcome .altered-turns) (outcome .altered-l
 abbrev wrong : Row → Bool
 wrong row = not (sameLinks (numbersIn (row .claimed)) (numbersIn (row .right)))
 
-row-refused : (row : Row) → Allows row (row .right) → wrong row ≡ true → Refused row
+row-refused : (row : Row) → Allows row (row .right) → wrong row ≡ true → RightAlone row
 row-refused row right h = (right, denied)
   where
     denied : Allows row (row .claimed) → ⊥
@@ -106,19 +105,19 @@ row-refused row right h = (right, denied)
         let not-same : sameLinks (numbersIn (row .claimed)) (numbersIn (row .right)) ≡ false = not-true _ h in
         clash (cc)
 
-closing-refused : (claimed : Outcome) → wrong (closing claimed) ≡ true → Refused (closing claimed)
+closing-refused : (claimed : Outcome) → wrong (closing claimed) ≡ true → RightAlone (closing claimed)
 closing-refused claimed h = row-refused (closing claimed) (closing-right claimed) h
 
-reopening-refused : (claimed : Outcome) → wrong (reopening claimed) ≡ true → Refused (reopening claimed)
+reopening-refused : (claimed : Outcome) → wrong (reopening claimed) ≡ true → RightAlone (reopening claimed)
 reopening-refused claimed h = row-refused (reopening claimed) (reopening-right claimed) h
 
 -- NONE OF THE WRONG OUTCOMES is allowed, and the right one is
-pub edits-refused : (any-turns any-links : ℕ) → Each Refused (wrongEdits any-turns any-links)
+pub edits-refused : (any-turns any-links : ℕ) → All RightAlone (wrongEdits any-turns any-links)
 unfolding withNumber
 edits-refused any-turns any-links =
-    let nothing-done = closing-refused (leaving 2 1 given) refl in
-    let nothing-counted = closing-refused (leaving 0 0 given) refl in
+    let nothing-done = closing-refused (leaving any-turns any-links given) refl in
     let once-only = reopening-refused (leaving any-turns any-links shut) refl in
     let counts-invented = closing-refused (leaving 5 5 shut) refl in
-    let own-entry-only = closing-refused (leaving 1 0 wiped) refl in
-    (nothing-done, (nothing-counted, (once-only, (counts-invented, (own-entry-only, tt)))))
+    let nothing-counted = closing-refused (leaving 0 0 shut) refl in
+    let own-entry-only = closing-refused (leaving any-turns any-links wiped) refl in
+    (nothing-done, (once-only, (counts-invented, (nothing-counted, (own-entry-only, tt)))))

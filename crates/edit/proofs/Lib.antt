@@ -3,6 +3,7 @@ pub mod Counted
 pub mod Tested
 pub mod NewLabels
 pub mod Determined
+pub mod SameValue
 pub mod RunsHold
 pub mod Closing
 pub mod TurnedAway

@@ -24,7 +24,7 @@ use Rattle.search.proofs.Determined.{true-sized, labels-one}
 use Rattle.edit.specs.declared.Edited.{Edited}
 use Rattle.edit.specs.Edit.{turnTest, editTests, Edit, refused, untrue, done}
 use Rattle.edit.specs.Run.{Change, ifDone, written, Run, start, next}
-use Rattle.edit.specs.Demands.{NotThirteen, RunHolds}
+use Rattle.edit.specs.Demands.{NotTurnedAway, RunHolds}
 use Rattle.edit.proofs.Tested.{edit-passed}
 use Rattle.edit.proofs.Determined.{LabelsOf, edited-good}
 
@@ -33,7 +33,7 @@ record EditHolds (r : ℕ) (book : List ℕ) (counts : Counts) (change : Change)
   edits : (rest : List Change) → written book-after counts rest ≡ written book counts (ifDone answer change ++ rest)
   good : checkOf book-after ≡ Good counts
   labels : TrueLabels (viewOf book-after counts) r turns-after links-after
-  not-thirteen : NotThirteen answer
+  not-turned-away : NotTurnedAway answer
 
 module _ (r : ℕ) (counts : Counts) (origin : r < counts .nodes) where
   module _ (book : List ℕ) (turns links : Table) (checked : checkOf book ≡ Good counts) (labels : TrueLabels (viewOf book counts) r turns links) where
@@ -42,9 +42,9 @@ module _ (r : ℕ) (counts : Counts) (origin : r < counts .nodes) where
     node-good = rw (checked, lt-ltb r (counts .nodes) origin)
 
     -- only the turn and its new walk can be refused
-    refused-eleven : (turn walk : ℕ) (found : Refusal) → editTests book r turn walk turns links ≡ Refused found → found ≡ refusal 11 0
+    only-the-change : (turn walk : ℕ) (found : Refusal) → editTests book r turn walk turns links ≡ Refused found → found ≡ refusal 11 0
     unfolding turnTest lengthTest
-    refused-eleven turn walk found h = by (ltb turn (counts .turns) && secondsGood walk) (rw (node-good) at h)
+    only-the-change turn walk found h = by (ltb turn (counts .turns) && secondsGood walk) (rw (node-good) at h)
       where
         by : (test : Bool) → lengthTest (unless test (refusal 11 0) (Good counts)) turns links ≡ Refused found → found ≡ refusal 11 0
         by false e = cc
@@ -58,8 +58,8 @@ module _ (r : ℕ) (counts : Counts) (origin : r < counts .nodes) where
     edit-holds : (change : Change) (answer : Edited) (book-after : List ℕ) (turns-after links-after : Table) → Edit book r (change .turn) (change .walk) turns links answer book-after turns-after links-after
         → EditHolds r book counts change answer book-after turns-after links-after
     edit-holds change answer book-after t l (refused found e a f g h) =
-        let eleven : found ≡ refusal 11 0 = refused-eleven (change .turn) (change .walk) found e in
-        rw (a, eleven, f, g, h) (record { edits = λ rest. refl; good = checked; labels = labels; not-thirteen = λ n. omega arith })
+        let eleven : found ≡ refusal 11 0 = only-the-change (change .turn) (change .walk) found e in
+        rw (a, eleven, f, g, h) (record { edits = λ rest. refl; good = checked; labels = labels; not-turned-away = λ n. omega arith })
     edit-holds change answer book-after t l (untrue own e n a f g h) = absurd (n (subst (LabelsOf book r turns links) (sym (counts-same (change .turn) (change .walk) own e)) labels))
     edit-holds change answer book-after t l (done own e y f z a) =
         let same : own ≡ counts = counts-same (change .turn) (change .walk) own e in
@@ -68,7 +68,7 @@ module _ (r : ℕ) (counts : Counts) (origin : r < counts .nodes) where
           edits = λ rest. rw (a, book-same) refl;
           good = rw (book-same) (edited-good book r (change .turn) (change .walk) turns links counts (subst (λ (x : Counts). editTests book r (change .turn) (change .walk) turns links ≡ Good x) same e));
           labels = subst (LabelsOf book-after r t l) same z;
-          not-thirteen = rw (a) (λ n. omega arith);
+          not-turned-away = rw (a) (λ n. omega arith);
         }
 
   -- the labels of a good book are those of any fresh search of it
@@ -84,11 +84,11 @@ module _ (r : ℕ) (counts : Counts) (origin : r < counts .nodes) where
   pub run-holds : {book : List ℕ} {turns links : Table} {answers : List Edited} {changes : List Change} {last : List ℕ} {turns-last links-last : Table}
       → checkOf book ≡ Good counts → TrueLabels (viewOf book counts) r turns links → Run r book turns links answers changes last turns-last links-last
       → RunHolds r book counts answers changes last turns-last links-last
-  run-holds checked labels (start book turns links) = record { edits = refl; good = checked; labels = labels; fresh = fresh-same book turns links checked labels; not-thirteen = tt }
+  run-holds checked labels (start book turns links) = record { edits = refl; good = checked; labels = labels; fresh = fresh-same book turns links checked labels; not-turned-away = tt }
   run-holds checked labels (next {book} {book-after} {turns} {links} {turns-after} {links-after} {answers} {changes} change answer edit rest) =
       let one = edit-holds book turns links checked labels change answer book-after turns-after links-after edit in
       let later = run-holds (one .good) (one .labels) rest in
-      record { edits = later .edits ∙ one .edits changes; good = later .good; labels = later .labels; fresh = later .fresh; not-thirteen = (one .not-thirteen, later .not-thirteen) }
+      record { edits = later .edits ∙ one .edits changes; good = later .good; labels = later .labels; fresh = later .fresh; not-turned-away = (one .not-turned-away, later .not-turned-away) }
 
 -- a search, then edits
 pub search-then-run : {r : ℕ} {book : List ℕ} {turns-lent links-lent turns links : Table} {answers : List Edited} {changes : List Change} {last : List ℕ} {turns-last links-last : Table}

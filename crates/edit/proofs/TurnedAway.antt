@@ -125,10 +125,10 @@ module _ (book : List ℕ) (r turn walk : ℕ) (turns links : Table) (answer : E
 -- A ROUTE whose other tests pass gives 13 exactly when the labels are not true
 module _ (book : List ℕ) (r s : ℕ) (turns links : Table) (buffer : List ℕ) (answer : Routed) (after : List ℕ) (counts : Counts) (tested : routeTests book r s turns links ≡ Good counts) where
   -- 14, 15 or done
-  onward-not-thirteen : (U : View) → RouteOnward U r s buffer answer after → answer ≡ RouteRefused (refusal 13 0) → ⊥
-  onward-not-thirteen U (no-walk n a f) e = omega (arith, ap (λ (x : Routed). routeGivenBack x .number) (sym a ∙ e))
-  onward-not-thirteen U (no-room w route short a f) e = omega (arith, ap (λ (x : Routed). routeGivenBack x .number) (sym a ∙ e))
-  onward-not-thirteen U (routed w route fits a f) e = omega (arith, ap (λ (x : Routed). routeGivenBack x .number) (sym a ∙ e))
+  onward-not-turned-away : (U : View) → RouteOnward U r s buffer answer after → answer ≡ RouteRefused (refusal 13 0) → ⊥
+  onward-not-turned-away U (no-walk n a f) e = omega (arith, ap (λ (x : Routed). routeGivenBack x .number) (sym a ∙ e))
+  onward-not-turned-away U (no-room w route short a f) e = omega (arith, ap (λ (x : Routed). routeGivenBack x .number) (sym a ∙ e))
+  onward-not-turned-away U (routed w route fits a f) e = omega (arith, ap (λ (x : Routed). routeGivenBack x .number) (sym a ∙ e))
 
   pub route-turned-away : Routing book r s turns links buffer answer after → (answer ≡ RouteRefused (refusal 13 0)) ↔ (TrueLabels (viewOf book counts) r turns links → ⊥)
   route-turned-away (route-refused found e a f) = clash (cc)
@@ -137,7 +137,7 @@ module _ (book : List ℕ) (r s : ℕ) (turns links : Table) (buffer : List ℕ)
       (λ thirteen. subst (λ (x : Counts). LabelsOf book r turns links x → ⊥) same n, λ not-true. a)
   route-turned-away (onward own e labels w) =
       let same : own ≡ counts = cc in
-      (λ thirteen. absurd (onward-not-thirteen (viewOf book own) w thirteen), λ not-true. absurd (not-true (subst (LabelsOf book r turns links) same labels)))
+      (λ thirteen. absurd (onward-not-turned-away (viewOf book own) w thirteen), λ not-true. absurd (not-true (subst (LabelsOf book r turns links) same labels)))
 
   pub route-differs : Routing book r s turns links buffer answer after → (answer ≡ RouteRefused (refusal 13 0)) ↔ SomeDiffers (viewOf book counts) r turns links
   route-differs outcome =

@@ -1,29 +1,27 @@
--- Demand 3: what the theorems about runs of edits, about closing a change and about labels that are turned away say.
+-- Demand 3: what the theorems about runs of edits, closing a change, labels that are turned away and an edit to the value already there say.
 use Prim.Native.Nat.{ℕ, _<_}
 use mathlib.Core.Path.{_≡_}
 use mathlib.Core.Logic.{_⊎_}
-use mathlib.Core.List.{List, [], _∷_}
+use mathlib.Core.List.{List}
+use lib.ListN.{getD}
 use Rattle.book.specs.declared.Counts.{Counts}
 use Rattle.book.specs.declared.Checked.the-variants.{Good}
 use Rattle.book.specs.Check.{checkOf}
 use Rattle.walk.specs.View.{View, viewOf}
 use Rattle.walk.specs.Walks.{turnsOf}
 use Rattle.walk.specs.Labels.{Chosen, TurnWalk, LinkWalk, Entry, Table, entryAt, TrueTurn, TrueLink, TrueLabels}
+use Rattle.walk.specs.Cases.{All}
 use Rattle.search.specs.declared.Searched.{Searched}
 use Rattle.search.specs.declared.Searched.the-variants.{Done as SearchDone}
 use Rattle.search.specs.Search.{Search}
 use Rattle.edit.specs.declared.Edited.{Edited}
+use Rattle.edit.specs.declared.Edited.the-variants.{Done}
 use Rattle.edit.specs.Edit.{editGivenBack}
 use Rattle.edit.specs.Run.{Change, written}
 
--- every one of a list
-abbrev pub Each : {A : Type 0} → (A → Type 0) → List A → Type 0
-Each P [] = Unit {0}
-Each P (a ∷ rest) = P a × Each P rest
-
 -- an answer that does not turn the labels away
-abbrev pub NotThirteen : Edited → Type 0
-NotThirteen answer = editGivenBack answer .number ≡ 13 → ⊥
+abbrev pub NotTurnedAway : Edited → Type 0
+NotTurnedAway answer = editGivenBack answer .number ≡ 13 → ⊥
 
 -- what a run from a good book and its true labels leaves
 pub record RunHolds (r : ℕ) (book : List ℕ) (counts : Counts) (answers : List Edited) (changes : List Change) (last : List ℕ) (turns-last links-last : Table) : Type 0 where
@@ -34,11 +32,11 @@ pub record RunHolds (r : ℕ) (book : List ℕ) (counts : Counts) (answers : Lis
   -- what any fresh search of the last book leaves
   pub fresh : (turns links : Table) (answer : Searched) (turns-fresh links-fresh : Table) → Search last r turns links answer turns-fresh links-fresh → answer ≡ SearchDone → (turns-fresh ≡ turns-last) × (links-fresh ≡ links-last)
   -- no label that an edit left is turned away
-  pub not-thirteen : Each NotThirteen answers
+  pub not-turned-away : All NotTurnedAway answers
 
 -- none of the turns is the closed one
 abbrev pub Avoids : ℕ → List ℕ → Type 0
-Avoids closed turns = Each (λ (t : ℕ). t ≡ closed → ⊥) turns
+Avoids closed turns = All (λ (t : ℕ). t ≡ closed → ⊥) turns
 
 -- of the walks of one kind there is none, or the chosen one avoids the closed turn
 pub data Untouched (U : View) (W : List ℕ → Type 0) (closed : ℕ) : Type 0 where
@@ -57,3 +55,10 @@ Differs count TrueAt table = (k : ℕ) × (k < count) × (e : Entry) × TrueAt k
 -- some entry of the two tables is not the true one
 abbrev pub SomeDiffers : View → ℕ → Table → Table → Type 0
 SomeDiffers U r turns links = Differs (U .turns) (TrueTurn U r) turns ⊎ Differs (U .links) (TrueLink U r) links
+
+-- what an edit to the value already there answers and leaves; a byte is below 256
+pub record SameValue (book : List ℕ) (turns links : Table) (answer : Edited) (book-after : List ℕ) (turns-after links-after : Table) : Type 0 where
+  pub answered : answer ≡ Done 0 0
+  pub turns-kept : turns-after ≡ turns
+  pub links-kept : links-after ≡ links
+  pub book-kept : ((i : ℕ) → getD book i 0 < 256) → book-after ≡ book

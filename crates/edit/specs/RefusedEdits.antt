@@ -66,18 +66,18 @@ closing claimed = record { before = given; turn = 3; walk = barred; right = leav
 abbrev pub reopening : Outcome → Row
 reopening claimed = record { before = shut; turn = 3; walk = 4; right = leaving 2 1 given; claimed = claimed }
 
--- the edit that returns success only may answer any counts
+-- an edit that leaves a wrong book or wrong labels may answer any counts
 abbrev pub wrongEdits : ℕ → ℕ → List Row
 wrongEdits any-turns any-links =
     -- an edit that does nothing
-    closing (leaving 2 1 given)
-    ∷ closing (leaving 0 0 given)
+    closing (leaving any-turns any-links given)
     -- one that works the first time and later returns success only
     ∷ reopening (leaving any-turns any-links shut)
     -- one that invents the counts
     ∷ closing (leaving 5 5 shut)
+    ∷ closing (leaving 0 0 shut)
     -- one that closes a change by wiping its own entry only
-    ∷ closing (leaving 1 0 wiped)
+    ∷ closing (leaving any-turns any-links wiped)
     ∷ []
 
 -- entries as they lie in lent buffers
@@ -91,5 +91,5 @@ Allows row outcome =
     (Done (outcome .altered-turns) (outcome .altered-links)) (outcome .after .book) (asTable (outcome .after .turns)) (asTable (outcome .after .links))
 
 -- it allows what is right and not what is claimed
-abbrev pub Refused : Row → Type 0
-Refused row = Allows row (row .right) × (Allows row (row .claimed) → ⊥)
+abbrev pub RightAlone : Row → Type 0
+RightAlone row = Allows row (row .right) × (Allows row (row .claimed) → ⊥)

@@ -24,7 +24,7 @@ abbrev pub written : List ℕ → Counts → List Change → List ℕ
 written book counts [] = book
 written book counts (change ∷ rest) = written (withWalk book counts (change .turn) (change .walk)) counts rest
 
--- from a book and labels, edits one after the other: their answers, the changes that were done, and what is left
+-- from a book and labels, edits one after the other, each lent what the one before left: their answers, the changes that were done, and what is left
 pub data Run (r : ℕ) : List ℕ → Table → Table → List Edited → List Change → List ℕ → Table → Table → Type 0 where
   start : (book : List ℕ) (turns links : Table) → Run r book turns links [] [] book turns links
   next : {book book-after : List ℕ} {turns links turns-after links-after : Table} {answers : List Edited} {changes : List Change} {last : List ℕ} {turns-last links-last : Table}

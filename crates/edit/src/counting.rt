@@ -3,9 +3,9 @@ use search::label_at;
 use search::same_label;
 ghost use mathlib.Core.Path.{_≡_};
 ghost use lib.ListN.{length};
-ghost use Rattle.walk.specs.Labels.{entryAt};
+ghost use Rattle.walk.specs.Labels.{entryAt, three};
 ghost use Rattle.walk.specs.Counting.{oneUnless, differing};
-ghost use Rattle.search.specs.steps.Tables.{three, Sized};
+ghost use Rattle.search.specs.steps.Tables.{Sized};
 
 fn one_unless(same: bool) -> usize
     ensures { λ r. ⌜ r ≡ oneUnless same ⌝ }

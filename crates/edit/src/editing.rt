@@ -18,7 +18,8 @@ use search::search;
 use search::seconds_good;
 use search::write_walk;
 ghost use mathlib.Core.Path.{_≡_};
-ghost use Rattle.search.specs.steps.Tables.{three, Sized};
+ghost use Rattle.walk.specs.Labels.{three};
+ghost use Rattle.search.specs.steps.Tables.{Sized};
 ghost use Rattle.edit.specs.Edit.{turnTest, editGivenBack, Edit};
 ghost use Rattle.edit.specs.steps.Onward.{Asked, Relabelled};
 

@@ -1,7 +1,7 @@
 // The labels from before an edit, kept beside those that are written.
 ghost use mathlib.Core.Path.{_≡_};
 ghost use lib.ListN.{length};
-ghost use Rattle.search.specs.steps.Tables.{three};
+ghost use Rattle.walk.specs.Labels.{three};
 
 fn keep_costs(from: &[u32], to: &mut [u32])
     requires { ⌜ length (now to) ≡ length (now from) ⌝ }

@@ -6,8 +6,10 @@ use super::running::TOO_FEW;
 use super::running::put_step;
 use super::running::run;
 use cases::CHAIN_BYTES;
+use cases::LARGEST_BYTES;
 use cases::book_a;
 use cases::put_chain;
+use cases::put_largest;
 
 // A run over book A from 0, then the route to 3.
 fn run_a(name: &[u8], steps: &[u16], expected: &[u8]) {
@@ -151,6 +153,30 @@ fn chain() {
     );
 }
 
+// Every count at its limit: a ring of 1,024 nodes, each left by two links, with every other turn closed.
+fn largest() {
+    let mut first = [0u8; LARGEST_BYTES];
+    put_largest(&mut first);
+    let mut book = [0u8; LARGEST_BYTES];
+    put_largest(&mut book);
+    let mut wanted = [0u8; LARGEST_BYTES];
+    put_largest(&mut wanted);
+    let mut steps = [0u16; 24];
+    put_step(&mut steps, 0, 0, 3599, RIGHT, 0, 1024, 1023);
+    put_step(&mut steps, 1, 0, 65535, RIGHT, 0, 1024, 1023);
+    put_step(&mut steps, 2, 1, 3600, RIGHT, 0, 1, 1);
+    put_step(&mut steps, 3, 4095, 3600, RIGHT, 0, 0, 0);
+    run(
+        b"the largest book",
+        &mut book,
+        &mut wanted,
+        &first,
+        &steps,
+        1023,
+        b"0 0 47865600 1023, changed since",
+    );
+}
+
 pub fn edits() {
     marked();
     already_there();
@@ -159,4 +185,5 @@ pub fn edits() {
     again();
     with_refusals();
     chain();
+    largest();
 }

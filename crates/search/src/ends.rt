@@ -12,7 +12,8 @@ ghost use Rattle.book.specs.declared.Checked.the-variants.{Good};
 ghost use Rattle.book.specs.Tables.{turnTable};
 ghost use Rattle.book.specs.Entries.{turnSecond};
 ghost use Rattle.book.specs.Check.{checkOf};
-ghost use Rattle.search.specs.steps.Tables.{three, Sized};
+ghost use Rattle.walk.specs.Labels.{three};
+ghost use Rattle.search.specs.steps.Tables.{Sized};
 ghost use Rattle.search.specs.steps.Ends.{endedOnce, endedBy};
 
 // The turn, where it is reached, offers its figures to the link that it ends with.

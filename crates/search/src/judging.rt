@@ -34,9 +34,9 @@ ghost use Rattle.book.specs.Entries.{turnSecond};
 ghost use Rattle.book.specs.Check.{checkOf};
 ghost use Rattle.walk.specs.View.{viewWith, viewOf, walksOf};
 ghost use Rattle.walk.specs.Walks.{lookUp};
-ghost use Rattle.walk.specs.Labels.{entryAt, TrueLabels};
+ghost use Rattle.walk.specs.Labels.{entryAt, TrueLabels, three};
 ghost use Rattle.walk.specs.steps.Pairs.{listedAt, stepTo};
-ghost use Rattle.search.specs.steps.Tables.{three, asEntry, goesAhead, Sized};
+ghost use Rattle.search.specs.steps.Tables.{asEntry, goesAhead, Sized};
 ghost use Rattle.search.specs.steps.Candidates.{ownLabel};
 ghost use Rattle.search.specs.steps.Judging.{everyBelow, limited as isLimited, overtakenBy, overtaken, steppedBy, backLeads, reachedStands, turnStands, endLeads, linkStands, Tells};
 

@@ -6,9 +6,9 @@ use super::figures::NO_WALK;
 ghost use mathlib.Core.Path.{_≡_};
 ghost use Prim.Native.Nat.{_<_};
 ghost use lib.ListN.{length};
-ghost use Rattle.walk.specs.Labels.{entryAt};
+ghost use Rattle.walk.specs.Labels.{entryAt, three};
 ghost use Rattle.walk.specs.steps.ViewNet.{isNone};
-ghost use Rattle.search.specs.steps.Tables.{three, asEntry, standsAs, placed, goesAhead, offered};
+ghost use Rattle.search.specs.steps.Tables.{asEntry, standsAs, placed, goesAhead, offered};
 ghost use Rattle.search.specs.steps.Judging.{limited};
 
 pub fn label_at(cost: &[u32], links: &[u16], back: &[u16], at: usize) -> Label

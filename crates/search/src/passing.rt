@@ -18,9 +18,9 @@ ghost use Rattle.book.specs.Tables.{pairTable};
 ghost use Rattle.book.specs.Check.{checkOf};
 ghost use Rattle.walk.specs.View.{viewWith};
 ghost use Rattle.walk.specs.Walks.{lookUp};
-ghost use Rattle.walk.specs.Labels.{entryAt};
+ghost use Rattle.walk.specs.Labels.{entryAt, three};
 ghost use Rattle.walk.specs.steps.Pairs.{listedAt, stepTo};
-ghost use Rattle.search.specs.steps.Tables.{three, tableUpTo, Sized};
+ghost use Rattle.search.specs.steps.Tables.{tableUpTo, Sized};
 ghost use Rattle.search.specs.steps.Passing.{StepFits, passedBy, passedTo};
 
 // Passes the label of turn `before`, its cost and links, on to one turn; its pairs end at `to`, and those before `at` are of earlier turns.

@@ -15,7 +15,7 @@ use walk::check;
 ghost use mathlib.Core.Path.{_≡_};
 ghost use Rattle.walk.specs.View.{viewOf};
 ghost use Rattle.search.specs.Route.{routeGivenBack, RouteOnward, Routing};
-ghost use Rattle.search.specs.steps.Tables.{three};
+ghost use Rattle.walk.specs.Labels.{three};
 ghost use Rattle.search.specs.steps.Routes.{RouteFrom};
 
 // Tests 14 and 15 over true labels, and the walk.

@@ -16,9 +16,9 @@ ghost use mathlib.Core.Path.{_≡_};
 ghost use Rattle.book.specs.declared.Checked.the-variants.{Good};
 ghost use Rattle.book.specs.Check.{checkOf};
 ghost use Rattle.walk.specs.View.{viewOf};
-ghost use Rattle.walk.specs.Labels.{TrueLabels};
+ghost use Rattle.walk.specs.Labels.{TrueLabels, three};
 ghost use Rattle.search.specs.Search.{searchGivenBack, Search};
-ghost use Rattle.search.specs.steps.Tables.{three, Sized};
+ghost use Rattle.search.specs.steps.Tables.{Sized};
 
 // Every entry, from this origin, whatever the buffers held.
 fn label_all(

@@ -12,8 +12,8 @@ ghost use lib.ListN.{length, getD, set, replicate};
 ghost use Rattle.book.specs.declared.Checked.the-variants.{Good};
 ghost use Rattle.book.specs.Check.{checkOf};
 ghost use Rattle.walk.specs.View.{viewWith, viewOf, walksOf};
-ghost use Rattle.walk.specs.Labels.{entryAt, TrueTurn, TrueTable};
-ghost use Rattle.search.specs.steps.Tables.{three, tableUpTo, Sized};
+ghost use Rattle.walk.specs.Labels.{entryAt, TrueTurn, TrueTable, three};
+ghost use Rattle.search.specs.steps.Tables.{tableUpTo, Sized};
 ghost use Rattle.search.specs.steps.Starts.{startEntry};
 ghost use Rattle.search.specs.steps.Passing.{StepFits, passedTo};
 

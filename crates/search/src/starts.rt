@@ -18,7 +18,8 @@ ghost use lib.ListN.{length};
 ghost use Rattle.book.specs.declared.Checked.the-variants.{Good};
 ghost use Rattle.book.specs.Check.{checkOf};
 ghost use Rattle.walk.specs.View.{viewOf, viewWith};
-ghost use Rattle.search.specs.steps.Tables.{three, asEntry, tableUpTo, Sized};
+ghost use Rattle.walk.specs.Labels.{three};
+ghost use Rattle.search.specs.steps.Tables.{asEntry, tableUpTo, Sized};
 ghost use Rattle.search.specs.steps.Starts.{startEntry, aloneEntry};
 
 // A turn of two links, where it is open and its first link leaves the origin.

@@ -4,7 +4,7 @@ use book::NodeNumber;
 use book::Refusal;
 ghost use mathlib.Core.Path.{_≡_};
 ghost use Rattle.search.specs.Tests.{fits, nodeTest, lengthTest};
-ghost use Rattle.search.specs.steps.Tables.{three};
+ghost use Rattle.walk.specs.Labels.{three};
 
 pub fn node_test(checked: Checked, node: NodeNumber) -> Checked
     ensures { λ r. ⌜ r ≡ nodeTest checked (node .0) ⌝ }

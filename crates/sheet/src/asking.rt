@@ -21,7 +21,7 @@ ghost use Prim.Native.Nat.{_≤_};
 ghost use lib.ListN.{length};
 ghost use Rattle.book.specs.declared.Checked.the-variants.{Good};
 ghost use Rattle.book.specs.Check.{checkOf};
-ghost use Rattle.search.specs.steps.Tables.{three};
+ghost use Rattle.walk.specs.Labels.{three};
 ghost use Rattle.sheet.specs.Sheet.{longestLine, routeRoom, Sheet};
 ghost use Rattle.sheet.specs.steps.Asking.{Ready, Labelled, LinePut};
 

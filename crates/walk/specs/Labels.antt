@@ -97,6 +97,10 @@ pub record Table : Type 0 where
   pub links : List ℕ
   pub back : List ℕ
 
+-- the table of three buffers
+abbrev pub three : List ℕ → List ℕ → List ℕ → Table
+three cost links back = record { cost = cost; links = links; back = back }
+
 abbrev pub entryAt : Table → ℕ → Entry
 entryAt table k = record { cost = getD (table .cost) k 0; links = getD (table .links) k 0; back = getD (table .back) k 0 }
 

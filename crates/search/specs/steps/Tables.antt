@@ -1,4 +1,4 @@
--- A table of labels as three lists, and the offer of a label to one entry.
+-- A label offered to one entry of a table.
 use Prim.Native.Nat.{ℕ}
 use mathlib.Core.Path.{_≡_}
 use mathlib.Core.List.{List}
@@ -9,9 +9,6 @@ use Rattle.walk.specs.View.{upTo}
 use Rattle.walk.specs.Labels.{Entry, Table, entryAt}
 use Rattle.walk.specs.Counting.{sameEntry}
 use Rattle.search.specs.declared.Label.{Label}
-
-abbrev pub three : List ℕ → List ℕ → List ℕ → Table
-three cost links back = record { cost = cost; links = links; back = back }
 
 abbrev pub asEntry : Label → Entry
 asEntry label = record { cost = label .cost; links = label .links; back = label .back }

@@ -5,8 +5,7 @@ use lib.ListN.{length}
 use mathlib.Core.Path.{_≡_, ap, ap₂, _∙_}
 use native.Mathlib.Omega.{arith}
 use Rattle.walk.specs.Counting.{sameEntry, oneUnless, differing}
-use Rattle.walk.specs.Labels.{entryAt}
-use Rattle.search.specs.steps.Tables.{three}
+use Rattle.walk.specs.Labels.{entryAt, three}
 use Rattle.edit.proofs.Counted.{at-most-one, none-counted, one-counted}
 use borrow.Author.Needs.{needs}
 use Rattle.edit.proofs.counting.count_differing.Statement.{statement}

@@ -4,7 +4,7 @@ use borrow.Author.Needs.{needs}
 use native.Mathlib.Omega.{arith}
 use Rattle.book.specs.Entries.{turnSecond}
 use Rattle.book.specs.Tables.{turnTable}
-use Rattle.search.specs.steps.Tables.{three}
+use Rattle.walk.specs.Labels.{three}
 use Rattle.book.proofs.GoodBook.{good-book}
 use Rattle.search.proofs.EndedTurns.{Ending, none-ended, one-ended, all-ended}
 use Rattle.search.proofs.ends.end_turns.Statement.{statement}

@@ -2,7 +2,7 @@
 use Prim.Native.Nat.{_-_}
 use native.Mathlib.Omega.{arith}
 use Rattle.book.proofs.GoodBook.{good-book}
-use Rattle.search.specs.steps.Tables.{three}
+use Rattle.walk.specs.Labels.{three}
 use Rattle.search.proofs.BothRuns.{followers-listed, pairs-listed}
 use Rattle.search.proofs.NoneOvertaken.{NoneOvertaken, none-yet, none-next, none-at-all, one-overtaken}
 use borrow.Author.Needs.{needs}

@@ -4,7 +4,7 @@ use Prim.Native.Nat.{_-_}
 use native.Mathlib.Omega.{arith}
 use Rattle.book.proofs.GoodBook.{good-book}
 use Rattle.walk.specs.View.{viewWith}
-use Rattle.search.specs.steps.Tables.{three}
+use Rattle.walk.specs.Labels.{three}
 use Rattle.search.specs.steps.Judging.{turnStands}
 use Rattle.search.proofs.EveryBelow.{Passed, none-passed, one-more-passed, all-passed, one-failed}
 use Rattle.search.proofs.judging.turns_stand.Statement.{statement}

@@ -2,7 +2,7 @@
 use Prim.Native.Nat.{_-_}
 use borrow.Author.Needs.{needs}
 use native.Mathlib.Omega.{arith}
-use Rattle.search.specs.steps.Tables.{three}
+use Rattle.walk.specs.Labels.{three}
 use Rattle.book.proofs.GoodBook.{good-book}
 use Rattle.search.proofs.Spreading.{Spreading, set-out, goes-on, arrived}
 use Rattle.search.proofs.BothRuns.{followers-listed, pairs-listed}

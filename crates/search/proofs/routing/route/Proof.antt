@@ -1,7 +1,7 @@
 -- Each answer of the tests and of the judge is one case of the contract.
 use denote.Ref.{now}
 use mathlib.Core.Path.{refl, sym, _∙_}
-use Rattle.search.specs.steps.Tables.{three}
+use Rattle.walk.specs.Labels.{three}
 use Rattle.search.specs.Route.{refused, untrue, onward}
 use Rattle.search.proofs.Tested.{route-tested, route-passed}
 use Rattle.search.proofs.RouteLaws.{not-so, so}

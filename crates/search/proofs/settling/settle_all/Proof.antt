@@ -6,7 +6,7 @@ use mathlib.Core.Path.{sym, ap, _∙_, subst}
 use native.Mathlib.Omega.{arith}
 use Rattle.search.specs.steps.Marks.{settledCount}
 use Rattle.search.specs.steps.Picking.{Picks}
-use Rattle.search.specs.steps.Tables.{three}
+use Rattle.walk.specs.Labels.{three}
 use Rattle.book.proofs.GoodBook.{good-book}
 use Rattle.search.proofs.Labelling.{Going, set-going, picked-within, picked-limits, fewer-left, goes-on, none-left}
 use Rattle.walk.proofs.Filling.{up-to-length}

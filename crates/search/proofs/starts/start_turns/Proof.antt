@@ -3,7 +3,7 @@ use Prim.Native.Nat.{_-_}
 use borrow.Author.Needs.{needs}
 use native.Mathlib.Omega.{arith}
 use Rattle.search.specs.steps.Starts.{startEntry}
-use Rattle.search.specs.steps.Tables.{three}
+use Rattle.walk.specs.Labels.{three}
 use Rattle.walk.specs.View.{viewWith}
 use Rattle.book.proofs.GoodBook.{good-book}
 use Rattle.search.proofs.FilledTables.{TableFilled, none-placed, one-placed, all-placed}

@@ -17,7 +17,7 @@ const MOST_RIDE: u16 = 36000;
 
 const MOST_SECONDS: u16 = 3600;
 
-const BARRED: u16 = 65535;
+pub const BARRED: u16 = 65535;
 
 // What a scan of one table finds.
 pub enum Scanned {

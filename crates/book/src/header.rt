@@ -13,9 +13,9 @@ const MOST_NODES: usize = 1024;
 
 const MOST_LINES: usize = 256;
 
-const MOST_LINKS: usize = 2048;
+pub const MOST_LINKS: usize = 2048;
 
-const MOST_TURNS: usize = 4096;
+pub const MOST_TURNS: usize = 4096;
 
 const MOST_PAIRS: usize = 2048;
 

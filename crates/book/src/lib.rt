@@ -9,6 +9,7 @@ mod tables;
 
 pub use checks::check;
 pub use checks::given_back;
+pub use entries::BARRED;
 pub use entries::seconds_good;
 pub use fields::line_headway;
 pub use fields::link_from;
@@ -22,6 +23,8 @@ pub use fields::turn_first;
 pub use fields::turn_second;
 pub use fields::turn_walk;
 pub use fields::write_walk;
+pub use header::MOST_LINKS;
+pub use header::MOST_TURNS;
 pub use numbers::number_at;
 pub use runs::pairs_from;
 pub use runs::turns_from;

@@ -21,7 +21,9 @@ use Rattle.search.specs.steps.Tables.{Sized}
 use Rattle.search.proofs.Determined.{true-sized}
 use Rattle.search.proofs.Tested.{lengths-fit}
 use Rattle.edit.specs.declared.Edited.the-variants.{Done}
+use Rattle.edit.specs.steps.KeptLabels.{keptAt, KeptWhole}
 use Rattle.edit.specs.steps.Onward.{Asked, Relabelled}
+use Rattle.edit.proofs.Counted.{same-counted}
 use Rattle.edit.proofs.Tested.{EditPassed, edit-passed}
 
 node-in : (checked : Checked) (node : ℕ) (counts : Counts) → checked ≡ Good counts → node < counts .nodes → nodeTest checked node ≡ Good counts
@@ -40,38 +42,33 @@ module _ (book : List ℕ) (counts : Counts) (r turn walk : ℕ) (turns links : 
     tests-pass : searchTests book-after r turns links ≡ Good counts
     tests-pass = lengths-fit (nodeTest (checkOf book-after) r) turns links counts (node-in (checkOf book-after) r counts still-good (passed .origin)) (passed .turns-sized) (passed .links-sized)
 
-    pub new-labels : (answer : Searched) (turns-after links-after : Table) → Search book-after r turns links answer turns-after links-after → TrueLabels (viewOf book-after counts) r turns-after links-after
-    new-labels answer turns-after links-after (refused found e a b c) = clash (cc (e, tests-pass))
-    new-labels answer turns-after links-after (done own e a labels) =
-        let same : own ≡ counts = cc (e, tests-pass) in
-        subst (λ (x : Counts). TrueLabels (viewOf book-after x) r turns-after links-after) same labels
+    -- what any search of the edited book leaves
+    module _ (answer : Searched) (turns-after links-after : Table) (searched : Search book-after r turns links answer turns-after links-after) where
+      new-labels : TrueLabels (viewOf book-after counts) r turns-after links-after
+      new-labels = by searched
+        where
+          by : Search book-after r turns links answer turns-after links-after → TrueLabels (viewOf book-after counts) r turns-after links-after
+          by (refused found e a b c) = clash (cc (e, tests-pass))
+          by (done own e a labels) =
+              let same : own ≡ counts = cc (e, tests-pass) in
+              subst (λ (x : Counts). TrueLabels (viewOf book-after x) r turns-after links-after) same labels
 
-    -- the labels from before, kept, and the labels now
-    module _ (turns-kept links-kept turns-after links-after : Table) (turns-same : turns-kept ≡ turns) (links-same : links-kept ≡ links) (labels : TrueLabels (viewOf book-after counts) r turns-after links-after) where
-      -- so many entries a table has, before and after
-      abbrev Both : Table → Table → Type 0
-      Both kept after = Sized (length (kept .cost)) kept × Sized (length (kept .cost)) after
+      -- the labels from before are kept beside them
+      module _ (turns-kept links-kept : List ℕ) (turns-whole : KeptWhole (counts .turns) turns-kept turns) (links-whole : KeptWhole (counts .links) links-kept links) where
+        pub turns-beside : Sized (length turns-kept) turns-after
+        turns-beside = subst (λ (n : ℕ). Sized n turns-after) (sym (turns-whole .whole)) (true-sized _ _ turns-after (new-labels .turn))
 
-      same-count : (count : ℕ) (kept old after : Table) → kept ≡ old → Sized count old → Sized count after → Both kept after
-      same-count count kept old after e sized sized-after =
-          let own : Sized count kept = subst (Sized count) (sym e) sized in
-          (subst (λ (n : ℕ). Sized n kept) (sym (own .cost)) own, subst (λ (n : ℕ). Sized n after) (sym (own .cost)) sized-after)
+        pub links-beside : Sized (length links-kept) links-after
+        links-beside = subst (λ (n : ℕ). Sized n links-after) (sym (links-whole .whole)) (true-sized _ _ links-after (new-labels .link))
 
-      pub turns-both : Both turns-kept turns-after
-      turns-both = same-count (counts .turns) turns-kept turns turns-after turns-same (passed .turns-sized) (true-sized _ _ turns-after (labels .turn))
+        counted : (count : ℕ) (kept : List ℕ) (old after : Table) → KeptWhole count kept old → {n : ℕ} → n ≡ differing (keptAt kept) (entryAt after) (length kept) → n ≡ differing (entryAt old) (entryAt after) count
+        counted count kept old after whole told = told ∙ ap (differing (keptAt kept) (entryAt after)) (whole .whole) ∙ same-counted (keptAt kept) (entryAt old) (entryAt after) count (whole .holds)
 
-      pub links-both : Both links-kept links-after
-      links-both = same-count (counts .links) links-kept links links-after links-same (passed .links-sized) (true-sized _ _ links-after (labels .link))
-
-      counted : (count : ℕ) (kept old after : Table) → kept ≡ old → Sized count old → {n : ℕ} → n ≡ differing (entryAt kept) (entryAt after) (length (kept .cost)) → n ≡ differing (entryAt old) (entryAt after) count
-      counted count kept old after e sized told =
-          told ∙ ap (λ (x : Table). differing (entryAt x) (entryAt after) (length (x .cost))) e ∙ ap (differing (entryAt old) (entryAt after)) (sized .cost)
-
-      pub relabelled : (turns-count links-count : ℕ) → turns-count ≡ differing (entryAt turns-kept) (entryAt turns-after) (length (turns-kept .cost)) → links-count ≡ differing (entryAt links-kept) (entryAt links-after) (length (links-kept .cost))
-          → Relabelled book counts r turn walk turns links (Done turns-count links-count) book-after turns-after links-after
-      relabelled turns-count links-count t l =
-          record {
-            written = written;
-            labels = labels;
-            counted = rw (counted (counts .turns) turns-kept turns turns-after turns-same (passed .turns-sized) t, counted (counts .links) links-kept links links-after links-same (passed .links-sized) l);
-          }
+        pub relabelled : (turns-count links-count : ℕ) → turns-count ≡ differing (keptAt turns-kept) (entryAt turns-after) (length turns-kept) → links-count ≡ differing (keptAt links-kept) (entryAt links-after) (length links-kept)
+            → Relabelled book counts r turn walk turns links (Done turns-count links-count) book-after turns-after links-after
+        relabelled turns-count links-count t l =
+            record {
+              written = written;
+              labels = new-labels;
+              counted = rw (counted (counts .turns) turns-kept turns turns-after turns-whole t, counted (counts .links) links-kept links links-after links-whole l);
+            }

@@ -1,1 +1,2 @@
+pub mod KeptLabels
 pub mod Onward

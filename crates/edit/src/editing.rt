@@ -2,11 +2,11 @@
 use super::EditFigures;
 use super::Edited;
 use super::counting::count_differing;
-use super::figures::MOST_LINKS;
-use super::figures::MOST_TURNS;
 use super::keeping::keep_table;
 use book::Checked;
 use book::Counts;
+use book::MOST_LINKS;
+use book::MOST_TURNS;
 use book::NodeNumber;
 use book::Refusal;
 use book::TurnNumber;
@@ -18,9 +18,10 @@ use search::search;
 use search::seconds_good;
 use search::write_walk;
 ghost use mathlib.Core.Path.{_≡_};
+ghost use Rattle.book.specs.declared.Checked.the-variants.{Good};
 ghost use Rattle.walk.specs.Labels.{three};
-ghost use Rattle.search.specs.steps.Tables.{Sized};
-ghost use Rattle.edit.specs.Edit.{turnTest, editGivenBack, Edit};
+ghost use Rattle.edit.specs.Edit.{turnTest, editTests, editGivenBack, Edit};
+ghost use Rattle.edit.specs.steps.KeptLabels.{KeptWhole};
 ghost use Rattle.edit.specs.steps.Onward.{Asked, Relabelled};
 
 // Test 11, after what the earlier tests answered.
@@ -41,7 +42,7 @@ fn turn_test(checked: Checked, turn: TurnNumber, walk: u16) -> Checked
     }
 }
 
-// The write and the labels of the edited book; the labels from before are kept beside them, and what differs is counted.
+// The write and the labels of the edited book; what differs from the labels kept from before is counted.
 fn relabel(
     book: &mut [u8],
     counts: Counts,
@@ -54,16 +55,12 @@ fn relabel(
     link_cost: &mut [u32],
     link_links: &mut [u16],
     link_back: &mut [u16],
-    turn_cost_kept: &[u32],
-    turn_links_kept: &[u16],
-    turn_back_kept: &[u16],
-    link_cost_kept: &[u32],
-    link_links_kept: &[u16],
-    link_back_kept: &[u16],
+    turns_kept: &[u64],
+    links_kept: &[u64],
 ) -> Edited
     requires { ⌜ Asked (now book) counts (origin .0) (turn .0) walk (three (now «turn_cost») (now «turn_links») (now «turn_back»)) (three (now «link_cost») (now «link_links») (now «link_back»)) ⌝ }
-    requires { ⌜ three (now «turn_cost_kept») (now «turn_links_kept») (now «turn_back_kept») ≡ three (now «turn_cost») (now «turn_links») (now «turn_back») ⌝ }
-    requires { ⌜ three (now «link_cost_kept») (now «link_links_kept») (now «link_back_kept») ≡ three (now «link_cost») (now «link_links») (now «link_back») ⌝ }
+    requires { ⌜ KeptWhole (counts .turns) (now «turns_kept») (three (now «turn_cost») (now «turn_links») (now «turn_back»)) ⌝ }
+    requires { ⌜ KeptWhole (counts .links) (now «links_kept») (three (now «link_cost») (now «link_links») (now «link_back»)) ⌝ }
     ensures { λ r. ⌜ Relabelled (now (book .entry)) counts (origin .0) (turn .0) walk (three (now («turn_cost» .entry)) (now («turn_links» .entry)) (now («turn_back» .entry))) (three (now («link_cost» .entry)) (now («link_links» .entry)) (now («link_back» .entry))) r (now (book .exit)) (three (now («turn_cost» .exit)) (now («turn_links» .exit)) (now («turn_back» .exit))) (three (now («link_cost» .exit)) (now («link_links» .exit)) (now («link_back» .exit))) ⌝ }
 {
     write_walk(book, counts, turn, walk);
@@ -77,87 +74,12 @@ fn relabel(
         link_links,
         link_back,
     );
-    let turns = count_differing(
-        turn_cost_kept,
-        turn_links_kept,
-        turn_back_kept,
-        turn_cost,
-        turn_links,
-        turn_back,
-    );
-    let links = count_differing(
-        link_cost_kept,
-        link_links_kept,
-        link_back_kept,
-        link_cost,
-        link_links,
-        link_back,
-    );
+    let turns = count_differing(turns_kept, turn_cost, turn_links, turn_back);
+    let links = count_differing(links_kept, link_cost, link_links, link_back);
     Edited::Done(turns, links)
 }
 
-// The labels are kept first, in buffers of the book's lengths.
-fn edit_beside(
-    book: &mut [u8],
-    counts: Counts,
-    origin: NodeNumber,
-    turn: TurnNumber,
-    walk: u16,
-    turn_cost: &mut [u32],
-    turn_links: &mut [u16],
-    turn_back: &mut [u16],
-    link_cost: &mut [u32],
-    link_links: &mut [u16],
-    link_back: &mut [u16],
-    turn_cost_kept: &mut [u32],
-    turn_links_kept: &mut [u16],
-    turn_back_kept: &mut [u16],
-    link_cost_kept: &mut [u32],
-    link_links_kept: &mut [u16],
-    link_back_kept: &mut [u16],
-) -> Edited
-    requires { ⌜ Asked (now book) counts (origin .0) (turn .0) walk (three (now «turn_cost») (now «turn_links») (now «turn_back»)) (three (now «link_cost») (now «link_links») (now «link_back»)) ⌝ }
-    requires { ⌜ (Sized (counts .turns) (three (now «turn_cost_kept») (now «turn_links_kept») (now «turn_back_kept»))) × (Sized (counts .links) (three (now «link_cost_kept») (now «link_links_kept») (now «link_back_kept»))) ⌝ }
-    ensures { λ r. ⌜ Relabelled (now (book .entry)) counts (origin .0) (turn .0) walk (three (now («turn_cost» .entry)) (now («turn_links» .entry)) (now («turn_back» .entry))) (three (now («link_cost» .entry)) (now («link_links» .entry)) (now («link_back» .entry))) r (now (book .exit)) (three (now («turn_cost» .exit)) (now («turn_links» .exit)) (now («turn_back» .exit))) (three (now («link_cost» .exit)) (now («link_links» .exit)) (now («link_back» .exit))) ⌝ }
-{
-    keep_table(
-        turn_cost,
-        turn_links,
-        turn_back,
-        turn_cost_kept,
-        turn_links_kept,
-        turn_back_kept,
-    );
-    keep_table(
-        link_cost,
-        link_links,
-        link_back,
-        link_cost_kept,
-        link_links_kept,
-        link_back_kept,
-    );
-    relabel(
-        book,
-        counts,
-        origin,
-        turn,
-        walk,
-        turn_cost,
-        turn_links,
-        turn_back,
-        link_cost,
-        link_links,
-        link_back,
-        turn_cost_kept,
-        turn_links_kept,
-        turn_back_kept,
-        link_cost_kept,
-        link_links_kept,
-        link_back_kept,
-    )
-}
-
-// The edit's own buffers, as long as the book's counts.
+// The labels are kept first, in buffers as long as the book's counts.
 fn edit_on(
     book: &mut [u8],
     counts: Counts,
@@ -176,13 +98,11 @@ fn edit_on(
 {
     let turns = counts.turns;
     let links = counts.links;
-    let mut turn_cost_kept = [0u32; MOST_TURNS];
-    let mut turn_links_kept = [0u16; MOST_TURNS];
-    let mut turn_back_kept = [0u16; MOST_TURNS];
-    let mut link_cost_kept = [0u32; MOST_LINKS];
-    let mut link_links_kept = [0u16; MOST_LINKS];
-    let mut link_back_kept = [0u16; MOST_LINKS];
-    edit_beside(
+    let mut turns_kept = [0u64; MOST_TURNS];
+    let mut links_kept = [0u64; MOST_LINKS];
+    keep_table(turn_cost, turn_links, turn_back, &mut turns_kept[..turns]);
+    keep_table(link_cost, link_links, link_back, &mut links_kept[..links]);
+    relabel(
         book,
         counts,
         origin,
@@ -194,12 +114,56 @@ fn edit_on(
         link_cost,
         link_links,
         link_back,
-        &mut turn_cost_kept[..turns],
-        &mut turn_links_kept[..turns],
-        &mut turn_back_kept[..turns],
-        &mut link_cost_kept[..links],
-        &mut link_links_kept[..links],
-        &mut link_back_kept[..links],
+        &turns_kept[..turns],
+        &links_kept[..links],
+    )
+}
+
+// Test 13, by the book as it stands before the edit.
+fn edit_judged(
+    book: &mut [u8],
+    counts: Counts,
+    origin: NodeNumber,
+    turn: TurnNumber,
+    walk: u16,
+    turn_cost: &mut [u32],
+    turn_links: &mut [u16],
+    turn_back: &mut [u16],
+    link_cost: &mut [u32],
+    link_links: &mut [u16],
+    link_back: &mut [u16],
+) -> Edited
+    requires { ⌜ editTests (now book) (origin .0) (turn .0) walk (three (now «turn_cost») (now «turn_links») (now «turn_back»)) (three (now «link_cost») (now «link_links») (now «link_back»)) ≡ Good counts ⌝ }
+    ensures { λ r. ⌜ Edit (now (book .entry)) (origin .0) (turn .0) walk (three (now («turn_cost» .entry)) (now («turn_links» .entry)) (now («turn_back» .entry))) (three (now («link_cost» .entry)) (now («link_links» .entry)) (now («link_back» .entry))) r (now (book .exit)) (three (now («turn_cost» .exit)) (now («turn_links» .exit)) (now («turn_back» .exit))) (three (now («link_cost» .exit)) (now («link_links» .exit)) (now («link_back» .exit))) ⌝ }
+{
+    if !labels_true(
+        book,
+        counts,
+        origin,
+        turn_cost,
+        turn_links,
+        turn_back,
+        link_cost,
+        link_links,
+        link_back,
+    ) {
+        return Edited::Refused(Refusal {
+            number: 13,
+            place: 0,
+        });
+    }
+    edit_on(
+        book,
+        counts,
+        origin,
+        turn,
+        walk,
+        turn_cost,
+        turn_links,
+        turn_back,
+        link_cost,
+        link_links,
+        link_back,
     )
 }
 
@@ -229,23 +193,7 @@ pub fn edit(
     ) {
         Checked::Refused(found) => Edited::Refused(found),
         Checked::Good(counts) => {
-            if !labels_true(
-                book,
-                counts,
-                origin,
-                turn_cost,
-                turn_links,
-                turn_back,
-                link_cost,
-                link_links,
-                link_back,
-            ) {
-                return Edited::Refused(Refusal {
-                    number: 13,
-                    place: 0,
-                });
-            }
-            edit_on(
+            edit_judged(
                 book,
                 counts,
                 origin,

@@ -3,7 +3,6 @@ use book::Refusal;
 
 mod counting;
 mod editing;
-mod figures;
 mod keeping;
 
 pub use editing::edit;

@@ -1,7 +1,7 @@
 // One edit with labels lent as a change says, and whether book and labels are then what they should be.
-use super::comparing::MOST_TURNS;
 use super::comparing::labels_are;
 use super::comparing::same_bytes;
+use book::MOST_TURNS;
 use book::NodeNumber;
 use book::TurnNumber;
 use cases::Change;

@@ -1,12 +1,11 @@
 // Whether book and labels are byte for byte and number for number what they should be.
+use book::MOST_TURNS;
 use cases::Change;
 use cases::count_at;
 use cases::put_labels;
 
 // One more than the most turns.
 pub const ROOM: usize = 4097;
-
-pub const MOST_TURNS: usize = 4096;
 
 fn byte_is(bytes: &[u8], at: usize, value: u8) -> bool {
     if bytes.len() <= at {

@@ -1,6 +1,5 @@
 // The judge: whether every entry of lent labels is the true one, by tests of each turn with its followers and of each link.
 use super::Label;
-use super::figures::MOST_TURNS;
 use super::figures::UNREACHED;
 use super::labels::goes_ahead;
 use super::labels::is_none;
@@ -12,6 +11,7 @@ use super::starts::alone;
 use super::starts::start_of;
 use book::Counts;
 use book::LinkNumber;
+use book::MOST_TURNS;
 use book::NodeNumber;
 use book::TurnNumber;
 use walk::Step;

@@ -1,7 +1,7 @@
 // One entry of a table of labels: what it holds, and the offer of another label.
 use super::Label;
-use super::figures::MOST_SECONDS;
 use super::figures::MOST_WALK_LINKS;
+use super::figures::MOST_WALK_SECONDS;
 use super::figures::NO_WALK;
 ghost use mathlib.Core.Path.{_≡_};
 ghost use Prim.Native.Nat.{_<_};
@@ -67,5 +67,5 @@ pub fn is_none(label: Label) -> bool
 pub fn limited(label: Label) -> bool
     ensures { λ r. ⌜ r ≡ limited (asEntry label) ⌝ }
 {
-    (2 <= label.links) & ((label.links <= MOST_WALK_LINKS) & (label.cost <= MOST_SECONDS))
+    (2 <= label.links) & ((label.links <= MOST_WALK_LINKS) & (label.cost <= MOST_WALK_SECONDS))
 }

@@ -1,9 +1,9 @@
 // Picking the next turn to settle.
 use super::Label;
 use super::Picked;
-use super::figures::MOST_TURNS;
 use super::figures::UNREACHED;
 use super::labels::goes_ahead;
+use book::MOST_TURNS;
 use book::TurnNumber;
 ghost use mathlib.Core.Path.{_≡_};
 ghost use Prim.Native.Nat.{_<_, _≤_};

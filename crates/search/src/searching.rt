@@ -1,13 +1,13 @@
 // Search: the tests in order, then every turn's entry and every link's.
 use super::Searched;
 use super::ends::end_turns;
-use super::figures::MOST_TURNS;
 use super::settling::label_turns;
 use super::starts::start_links;
 use super::tests::length_test;
 use super::tests::node_test;
 use book::Checked;
 use book::Counts;
+use book::MOST_TURNS;
 use book::NodeNumber;
 use book::Refusal;
 use walk::check;

@@ -1,13 +1,13 @@
 // The entries that need no turn before them.
 use super::Label;
-use super::figures::CLOSED;
 use super::figures::NO_WALK;
-use super::figures::START_BACK;
 use super::labels::place;
+use book::BARRED;
 use book::Counts;
 use book::LinkNumber;
 use book::NodeNumber;
 use book::TurnNumber;
+use walk::START_BACK;
 use walk::link_cost;
 use walk::link_from;
 use walk::turn_first;
@@ -35,7 +35,7 @@ pub fn start_of(
     ensures { λ r. ⌜ asEntry r ≡ startEntry (viewWith (now (book .entry)) counts (now (walks .entry))) (origin .0) (turn .0) ⌝ }
 {
     let walk = walks[turn.0 as usize];
-    if walk == CLOSED {
+    if walk == BARRED {
         return NO_WALK;
     }
     let first = turn_first(book, counts, turn);

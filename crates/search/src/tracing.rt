@@ -1,8 +1,8 @@
 // Reading a route back, one link at a time.
-use super::figures::START_BACK;
 use book::Counts;
 use book::LinkNumber;
 use book::TurnNumber;
+use walk::START_BACK;
 use walk::turn_first;
 use walk::turn_second;
 ghost use mathlib.Core.Path.{_≡_};

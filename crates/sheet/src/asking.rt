@@ -2,13 +2,13 @@
 use super::Sheeted;
 use super::figures::BEFORE_BOOK;
 use super::figures::LONGEST_LINE;
-use super::figures::MOST_LINKS;
-use super::figures::MOST_TURNS;
 use super::figures::ROUTE_ROOM;
 use super::lines::put_refusal;
 use super::lines::put_route;
 use book::Checked;
 use book::Counts;
+use book::MOST_LINKS;
+use book::MOST_TURNS;
 use book::NodeNumber;
 use search::Routed;
 use search::Searched;

@@ -1,8 +1,7 @@
 // The cost of a given walk.
 use super::Costed;
 use super::figures::MOST_LINKS_GIVEN;
-use super::figures::MOST_TURNS;
-use super::figures::NONE_BEFORE;
+use super::figures::START_BACK;
 use super::offered::check;
 use super::onward::Advanced;
 use super::onward::advance;
@@ -11,6 +10,7 @@ use super::walks::read_walks;
 use book::Checked;
 use book::Counts;
 use book::LinkNumber;
+use book::MOST_TURNS;
 use book::NodeNumber;
 use book::Refusal;
 use book::link_from;
@@ -32,7 +32,7 @@ fn cost_onward(book: &[u8], counts: Counts, walks: &[u16], links: &[u16]) -> Cos
     ensures { λ r. ⌜ r ≡ walkAnswer (viewOf (now (book .entry)) counts) (linkFrom (linkTable (now (book .entry)) counts) (getD (now (links .entry)) 0 0)) (now (links .entry)) ⌝ }
 {
     let mut last = links[0];
-    let mut before = NONE_BEFORE;
+    let mut before = START_BACK;
     let mut cost = link_cost(book, counts, LinkNumber(last));
     let mut k = 1;
     'links: loop {

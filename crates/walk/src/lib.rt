@@ -10,6 +10,7 @@ mod steps;
 mod turns;
 mod walks;
 
+pub use figures::START_BACK;
 pub use given::cost_of;
 pub use offered::check;
 pub use offered::link_from;

@@ -1,7 +1,7 @@
 // One more link of a given walk.
 use super::Between;
 use super::Step;
-use super::figures::NONE_BEFORE;
+use super::figures::START_BACK;
 use super::pairs::between_turns;
 use super::steps::step_to;
 use super::turns::turn_of;
@@ -35,7 +35,7 @@ fn stands_after(
     requires { ⌜ (length (now walks) ≡ counts .turns) × (turn .0 < counts .turns) × ((before ≡ startBack → ⊥) → before < counts .turns) ⌝ }
     ensures { λ r. ⌜ r ≡ standsAfter (viewWith (now (book .entry)) counts (now (walks .entry))) (turn .0) (turnBefore before) ⌝ }
 {
-    if before == NONE_BEFORE {
+    if before == START_BACK {
         return Between::Nothing;
     }
     between_turns(book, counts, walks, TurnNumber(before), turn)

@@ -1,7 +1,7 @@
 // Two successive turns looked up within the first one's run of pairs.
 use super::Between;
 use super::Run;
-use super::figures::BARRED;
+use book::BARRED;
 use book::Counts;
 use book::TurnNumber;
 use book::pair_extra;

@@ -1,7 +1,7 @@
 // A link's cost, and the step from a turn to the next.
 use super::Between;
 use super::Step;
-use super::figures::BARRED;
+use book::BARRED;
 use book::Counts;
 use book::LinkNumber;
 use book::TurnNumber;

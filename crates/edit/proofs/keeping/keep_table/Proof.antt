@@ -1,37 +1,62 @@
--- Each of the three buffers is kept.
+-- The entries passed are kept.
+use Prim.Native.Nat.{_-_}
+use lib.ListN.{length}
+use mathlib.Core.Path.{refl, _∙_}
+use Rattle.walk.specs.Labels.{three}
+use Rattle.edit.proofs.KeptSoFar.{Kept, none-kept, one-kept, all-kept}
 use borrow.Author.Needs.{needs}
 use Rattle.edit.proofs.keeping.keep_table.Statement.{statement}
 use Rattle.edit.proofs.keeping.keep_table.Tie as tie
 
-keep-costs-requires : tie.Need-keep-costs-requires
-keep-costs-requires c κs = search needs
+abbrev Inv-entries : tie.InvT-entries
+Inv-entries cost links back kept₀ entry₀ kept entry = Kept (length kept₀) kept (three cost links back) entry
 
-keep-numbers-requires : tie.Need-keep-numbers-requires
-keep-numbers-requires c κs = search needs
+abbrev μ-entries : tie.MeasureT-entries
+μ-entries cost links back kept₀ entry₀ kept entry = length kept₀ - entry
 
-keep-numbers-requires-2 : tie.Need-keep-numbers-requires-2
-keep-numbers-requires-2 c κs = search needs
+entries-holds : tie.Need-entries-holds Inv-entries μ-entries
+entries-holds c = none-kept _ _ _ refl
 
-same-length : tie.Need-same-length
+label-at-requires : tie.Need-label-at-requires Inv-entries μ-entries
+label-at-requires c κs = search needs
+
+kept-as-requires : tie.Need-kept-as-requires Inv-entries μ-entries
+kept-as-requires c κs = search needs
+
+mul-kept : tie.Need-mul-kept Inv-entries μ-entries
+mul-kept c = search needs
+
+slice-write-kept : tie.Need-slice-write-kept Inv-entries μ-entries
+slice-write-kept c = search needs
+
+add-entry : tie.Need-add-entry Inv-entries μ-entries
+add-entry c = search needs
+
+entries-less : tie.Need-entries-less Inv-entries μ-entries
+entries-less c = search needs
+
+entries-again : tie.Need-entries-again Inv-entries μ-entries
+entries-again c = one-kept _ _ _ _ _ (search needs) (c .kept-as .ensures ∙ c .before .label-at .ensures) (c .before .before .before .entries .inv)
+
+same-length : tie.Need-same-length Inv-entries μ-entries
 same-length c = search needs
 
-same-length-2 : tie.Need-same-length-2
-same-length-2 c = search needs
-
-same-length-3 : tie.Need-same-length-3
-same-length-3 c = search needs
-
-returns : tie.Need-returns
-returns c = rw (c .before .before .before .before .before .before .before .before .before .before .keep-costs .ensures, c .before .before .before .before .before .before .keep-numbers .ensures, c .before .before .keep-numbers2 .ensures)
+returns : tie.Need-returns Inv-entries μ-entries
+returns c = all-kept _ _ _ _ (search needs) (c .before .entries .inv)
 
 pub keep-table-spec : {M : Type 1} → statement M
 keep-table-spec =
     tie.close
     (tie.spec
-    keep-costs-requires
-    keep-numbers-requires
-    keep-numbers-requires-2
+    Inv-entries
+    μ-entries
+    entries-holds
+    label-at-requires
+    kept-as-requires
+    mul-kept
+    slice-write-kept
+    add-entry
+    entries-less
+    entries-again
     same-length
-    same-length-2
-    same-length-3
     returns)

@@ -14,7 +14,7 @@ use Rattle.book.specs.Header.{headerBytes, markGood, versionGood, counts
 use Rattle.book.specs.Tables.{joinBytes, linesAt, linksAt, turnsAt, pairsAt, bookEnd, lineTable, linkTable, turnTable, pairTable}
 use Rattle.book.specs.Entries.{joinFirst, joinSecond, joinSeconds, secondsGood, ascends, joinGood, turnGood, pairGood, turnFirst, turnSecond, turnWalk}
 use Rattle.book.specs.Check.{checkOf}
-use Rattle.book.specs.Walk.{withWalk}
+use Rattle.book.specs.Changes.{withWalk}
 use Rattle.book.proofs.Passes.{All, GoodTables, Passes, passes, checks-good}
 use Rattle.book.proofs.Rules.{JoinRules, join-rules}
 use Rattle.book.proofs.NumberWritten.{written-length, written-byte, written-other, written-same, part-before, part-after, part-around}

@@ -4,7 +4,7 @@ pub mod Tables
 pub mod Entries
 pub mod FirstBad
 pub mod Check
-pub mod Walk
+pub mod Changes
 pub mod Runs
 pub mod BookA
 pub mod steps

@@ -20,7 +20,7 @@ ghost use Rattle.book.specs.Tables.{linkBytes, joinBytes, lineTable, lin
 ghost use Rattle.book.specs.Entries.{field, lineHeadway, linkFrom, linkTo, linkLine, linkRide};
 ghost use Rattle.book.specs.Entries.{turnFirst, turnSecond, turnWalk, pairFirst, pairSecond, pairExtra};
 ghost use Rattle.book.specs.Check.{checkOf};
-ghost use Rattle.book.specs.Walk.{withWalk};
+ghost use Rattle.book.specs.Changes.{withWalk};
 
 pub fn line_headway(book: &[u8], counts: Counts, line: u16) -> u16
     requires { ⌜ (checkOf (now book) ≡ Good counts) × (line < counts .lines) ⌝ }

@@ -13,7 +13,7 @@ use Rattle.book.specs.declared.Counts.{Counts}
 use Rattle.book.specs.declared.Checked.the-variants.{Good}
 use Rattle.book.specs.Tables.{turnTable}
 use Rattle.book.specs.Entries.{barred, secondsGood, lineHeadway, linkFrom, linkTo, linkLine, linkRide, turnWalk}
-use Rattle.book.specs.Walk.{withWalk}
+use Rattle.book.specs.Changes.{withWalk}
 use Rattle.book.specs.Check.{checkOf}
 use Rattle.book.proofs.Limits.{both}
 use Rattle.book.proofs.GoodBook.{good-book}

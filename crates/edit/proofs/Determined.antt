@@ -4,7 +4,7 @@ use mathlib.Core.Path.{_≡_, sym, _∙_, subst}
 use mathlib.Core.List.{List}
 use Rattle.book.specs.declared.Counts.{Counts}
 use Rattle.book.specs.declared.Checked.the-variants.{Good}
-use Rattle.book.specs.Walk.{withWalk}
+use Rattle.book.specs.Changes.{withWalk}
 use Rattle.book.specs.Check.{checkOf}
 use Rattle.book.proofs.WalkWritten.{walk-written}
 use Rattle.walk.specs.View.{viewOf}

@@ -1,12 +1,12 @@
 -- A number keeps an entry whole, and the entries kept so far are those of the table.
 use Prim.Native.Nat.{ℕ, _+_, _*_, _/_, _%_, _≤_, _<_}
-use mathlib.Core.Path.{_≡_, refl, sym, ap, _∙_, subst}
+use mathlib.Core.Path.{_≡_, sym, ap, _∙_, subst}
 use mathlib.Core.List.{List, _++_}
 use native.Mathlib.Omega.{arith}
 use native.Mathlib.Decide.{decLt}
-use lib.ListN.{length, getD, set, take, drop, length-set}
+use lib.ListN.{length, set, take, drop, length-set}
 use lib.Seq.{getD-set-same, getD-set-other, length-take-le, take-at}
-use Rattle.walk.specs.Labels.{Entry, Table, entryAt}
+use Rattle.walk.specs.Labels.{Table, entryAt}
 use Rattle.walk.proofs.Filling.{front-within}
 use Rattle.search.specs.steps.Tables.{Sized}
 use Rattle.edit.specs.steps.KeptLabels.{keptEntry, keptAt, KeptWhole}

@@ -8,7 +8,7 @@ use Rattle.book.specs.declared.Counts.{Counts}
 use Rattle.book.specs.declared.Checked.{Checked}
 use Rattle.book.specs.declared.Checked.the-variants.{Good}
 use Rattle.book.specs.Check.{checkOf}
-use Rattle.book.specs.Walk.{withWalk}
+use Rattle.book.specs.Changes.{withWalk}
 use Rattle.book.proofs.WalkWritten.{walk-written}
 use Rattle.walk.specs.View.{viewOf}
 use Rattle.walk.specs.Labels.{Table, entryAt, TrueLabels}

@@ -10,7 +10,7 @@ use Rattle.book.specs.declared.Counts.{Counts}
 use Rattle.book.specs.declared.Refusal.{Refusal}
 use Rattle.book.specs.declared.Checked.the-variants.{Good, Refused}
 use Rattle.book.specs.Entries.{secondsGood}
-use Rattle.book.specs.Walk.{withWalk}
+use Rattle.book.specs.Changes.{withWalk, Change, withChanges}
 use Rattle.book.specs.Check.{checkOf, refusal, unless}
 use Rattle.walk.specs.View.{viewOf}
 use Rattle.walk.specs.Labels.{Table, TrueLabels}
@@ -23,14 +23,14 @@ use Rattle.search.proofs.Tested.{node-passed, length-passed, search-passed, len
 use Rattle.search.proofs.Determined.{true-sized, labels-one}
 use Rattle.edit.specs.declared.Edited.{Edited}
 use Rattle.edit.specs.Edit.{turnTest, editTests, Edit, refused, untrue, done}
-use Rattle.edit.specs.Run.{Change, ifDone, written, Run, start, next}
+use Rattle.edit.specs.Run.{ifDone, Run, start, next}
 use Rattle.edit.specs.Demands.{NotTurnedAway, RunHolds}
 use Rattle.edit.proofs.Tested.{edit-passed}
 use Rattle.edit.proofs.Determined.{LabelsOf, edited-good}
 
 -- what one edit of the run leaves to those after it
 record EditHolds (r : ℕ) (book : List ℕ) (counts : Counts) (change : Change) (answer : Edited) (book-after : List ℕ) (turns-after links-after : Table) : Type 0 where
-  edits : (rest : List Change) → written book-after counts rest ≡ written book counts (ifDone answer change ++ rest)
+  edits : (rest : List Change) → withChanges book-after counts rest ≡ withChanges book counts (ifDone answer change ++ rest)
   good : checkOf book-after ≡ Good counts
   labels : TrueLabels (viewOf book-after counts) r turns-after links-after
   not-turned-away : NotTurnedAway answer

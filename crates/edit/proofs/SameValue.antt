@@ -10,20 +10,20 @@ use lib.Seq.{ext-getD, getD-set-same, getD-set-other, getD-take, getD-drop}
 use Rattle.book.specs.declared.Counts.{Counts}
 use Rattle.book.specs.declared.Checked.the-variants.{Good}
 use Rattle.book.specs.Number.{numberAt, withNumber}
-use Rattle.book.specs.Entries.{lineHeadway, linkFrom, linkTo, linkLine, linkRide, turnWalk, secondsGood}
+use Rattle.book.specs.Entries.{linkFrom, linkTo, linkRide, turnWalk, secondsGood}
 use Rattle.book.specs.Tables.{joinBytes, turnsAt, pairsAt, part, turnTable}
 use Rattle.book.specs.Check.{checkOf}
-use Rattle.book.specs.Walk.{withWalk}
+use Rattle.book.specs.Changes.{withWalk}
 use Rattle.book.proofs.GoodBook.{good-book}
 use Rattle.book.proofs.WalkWritten.{WalkWritten, walk-written}
-use Rattle.walk.specs.View.{View, viewOf, walksOf, listedIn, Agree}
+use Rattle.walk.specs.View.{viewOf, walksOf, listedIn}
 use Rattle.walk.specs.Labels.{Table, Entry, entryAt, startBack, TrueLabels}
-use Rattle.walk.specs.Counting.{sameEntry, differing}
+use Rattle.walk.specs.Counting.{differing}
 use Rattle.walk.proofs.theory.Laws.{clash}
 use Rattle.walk.proofs.CaseTests.{entry-same}
 use Rattle.walk.proofs.Filling.{up-to-at}
 use Rattle.walk.proofs.GoodView.{good-view}
-use Rattle.walk.proofs.Agreement.{turn-agrees, link-agrees}
+use Rattle.walk.proofs.Agreement.{Agree, turn-agrees, link-agrees}
 use Rattle.search.proofs.Determined.{labels-one}
 use Rattle.edit.specs.declared.Edited.{Edited}
 use Rattle.edit.specs.Edit.{Edit, editTests, refused, untrue, done}

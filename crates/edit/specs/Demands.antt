@@ -7,6 +7,7 @@ use lib.ListN.{getD}
 use Rattle.book.specs.declared.Counts.{Counts}
 use Rattle.book.specs.declared.Checked.the-variants.{Good}
 use Rattle.book.specs.Check.{checkOf}
+use Rattle.book.specs.Changes.{Change, withChanges}
 use Rattle.walk.specs.View.{View, viewOf}
 use Rattle.walk.specs.Walks.{turnsOf}
 use Rattle.walk.specs.Labels.{Chosen, TurnWalk, LinkWalk, Entry, Table, entryAt, TrueTurn, TrueLink, TrueLabels}
@@ -17,7 +18,6 @@ use Rattle.search.specs.Search.{Search}
 use Rattle.edit.specs.declared.Edited.{Edited}
 use Rattle.edit.specs.declared.Edited.the-variants.{Done}
 use Rattle.edit.specs.Edit.{editGivenBack}
-use Rattle.edit.specs.Run.{Change, written}
 
 -- an answer that does not turn the labels away
 abbrev pub NotTurnedAway : Edited → Type 0
@@ -26,7 +26,7 @@ NotTurnedAway answer = editGivenBack answer .number ≡ 13 → ⊥
 -- what a run from a good book and its true labels leaves
 pub record RunHolds (r : ℕ) (book : List ℕ) (counts : Counts) (answers : List Edited) (changes : List Change) (last : List ℕ) (turns-last links-last : Table) : Type 0 where
   -- exactly the done edits, in order
-  pub edits : last ≡ written book counts changes
+  pub edits : last ≡ withChanges book counts changes
   pub good : checkOf last ≡ Good counts
   pub labels : TrueLabels (viewOf last counts) r turns-last links-last
   -- what any fresh search of the last book leaves

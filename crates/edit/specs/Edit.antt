@@ -10,7 +10,7 @@ use Rattle.book.specs.declared.Checked.{Checked}
 use Rattle.book.specs.declared.Checked.the-variants.{Good, Refused}
 use Rattle.book.specs.Entries.{secondsGood}
 use Rattle.book.specs.Check.{checkOf, refusal, unless}
-use Rattle.book.specs.Walk.{withWalk}
+use Rattle.book.specs.Changes.{withWalk}
 use Rattle.walk.specs.View.{viewOf}
 use Rattle.walk.specs.Labels.{Table, entryAt, TrueLabels}
 use Rattle.walk.specs.Counting.{differing}

@@ -4,7 +4,7 @@ use mathlib.Core.List.{List, [], _∷_, map}
 use Rattle.book.specs.Entries.{barred}
 use Rattle.book.specs.BookA.{bookA}
 use Rattle.walk.specs.Labels.{Entry, Table, noEntry, startBack}
-use Rattle.walk.specs.Cases.{closed, edited, entry}
+use Rattle.walk.specs.Cases.{closed, changedA, entry}
 use Rattle.edit.specs.declared.Edited.the-variants.{Done}
 use Rattle.edit.specs.Edit.{Edit}
 
@@ -41,7 +41,7 @@ given =
 abbrev pub shut : Labelled
 shut =
     record {
-      book = edited bookA (closed 3 ∷ []);
+      book = changedA (closed 3 ∷ []);
       turns = entry 90 2 startBack ∷ noEntry ∷ entry 153 3 0 ∷ noEntry ∷ entry 442 2 startBack ∷ [];
       links = entry 40 1 startBack ∷ entry 90 2 0 ∷ entry 442 2 4 ∷ entry 153 3 2 ∷ entry 403 1 startBack ∷ [];
     }
@@ -50,7 +50,7 @@ shut =
 abbrev pub wiped : Labelled
 wiped =
     record {
-      book = edited bookA (closed 3 ∷ []);
+      book = changedA (closed 3 ∷ []);
       turns = entry 90 2 startBack ∷ entry 342 5 3 ∷ entry 153 3 0 ∷ noEntry ∷ entry 442 2 startBack ∷ [];
       links = given .links;
     }

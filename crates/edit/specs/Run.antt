@@ -1,28 +1,16 @@
 -- Demand 3: a run of edits over one book and its labels, from one origin, refused ones among them.
 use Prim.Native.Nat.{ℕ}
-use mathlib.Core.Path.{_≡_}
 use mathlib.Core.List.{List, [], _∷_, _++_}
-use Rattle.book.specs.declared.Counts.{Counts}
-use Rattle.book.specs.Walk.{withWalk}
+use Rattle.book.specs.Changes.{Change}
 use Rattle.walk.specs.Labels.{Table}
 use Rattle.edit.specs.declared.Edited.{Edited}
 use Rattle.edit.specs.declared.Edited.the-variants.{Done, Refused}
 use Rattle.edit.specs.Edit.{Edit}
 
--- a turn and its new walk
-pub record Change : Type 0 where
-  pub turn : ℕ
-  pub walk : ℕ
-
 -- what an edit adds to the done changes
 abbrev pub ifDone : Edited → Change → List Change
 ifDone (Done turns links) change = change ∷ []
 ifDone (Refused found) change = []
-
--- the book with changes written in order
-abbrev pub written : List ℕ → Counts → List Change → List ℕ
-written book counts [] = book
-written book counts (change ∷ rest) = written (withWalk book counts (change .turn) (change .walk)) counts rest
 
 -- from a book and labels, edits one after the other, each lent what the one before left: their answers, the changes that were done, and what is left
 pub data Run (r : ℕ) : List ℕ → Table → Table → List Edited → List Change → List ℕ → Table → Table → Type 0 where

@@ -13,6 +13,7 @@ fn main() {
         Sheeted::Line(end) => {
             io::write_all(STDOUT_FILENO, &text[..end]);
         }
+        // This does not happen: the text has room for the longest line (`always-room` in the sheet's Printed).
         Sheeted::NoRoom => {}
     }
 }

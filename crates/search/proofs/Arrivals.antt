@@ -24,8 +24,7 @@ use Rattle.walk.proofs.KeyLaws.{laws}
 use Rattle.walk.proofs.ChosenLaws.{Limited, link-bounded, route-bounded}
 use Rattle.walk.proofs.CaseTests.{tested}
 use Rattle.walk.proofs.LabelLaws.{figures-reading, link-inside, Found, route-found, none-found, destination-found}
-use Rattle.search.specs.steps.Tables.{goesAhead}
-use Rattle.search.specs.steps.Candidates.{ownLabel}
+use Rattle.search.specs.steps.Tables.{goesAhead, ownLabel}
 use Rattle.search.specs.steps.Passing.{better, offeredIf}
 use Rattle.search.specs.steps.Arriving.{isEntering, bestInto}
 use Rattle.search.proofs.LinkEnds.{Held, none-held, alone-held, offer-held, taken, still-held, taken-held, label, taken-figures, when-none}

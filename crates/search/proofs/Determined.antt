@@ -1,7 +1,8 @@
 -- What a search or a route answers and leaves is fixed by what it was lent, since every entry has one true value and the chosen walk is one.
 use Prim.Native.Nat.{ℕ, _≤_, _<_}
-use mathlib.Core.Path.{_≡_, sym, ap, _∙_, subst}
+use mathlib.Core.Path.{_≡_, refl, sym, ap, _∙_, subst}
 use mathlib.Core.List.{List, _++_}
+use mathlib.Core.Bool.{Bool, true, false}
 use native.Mathlib.Omega.{arith}
 use lib.ListN.{length, drop}
 use Rattle.book.specs.declared.Counts.{Counts}
@@ -15,11 +16,13 @@ use Rattle.walk.proofs.theory.Laws.{clash}
 use Rattle.walk.proofs.GoodView.{GoodView, good-view}
 use Rattle.walk.proofs.LabelLaws.{turn-one, link-one, route-one}
 use Rattle.search.specs.declared.Searched.{Searched}
+use Rattle.search.specs.declared.Searched.the-variants.{Done as SearchDone}
 use Rattle.search.specs.declared.Routed.{Routed}
 use Rattle.search.specs.declared.Routed.the-variants.{Done as RouteDone}
 use Rattle.search.specs.Search.{Search, refused, done}
 use Rattle.search.specs.Route.{RouteOnward, no-walk, no-room, done as routed, Routing, refused as route-refused, untrue, onward}
 use Rattle.search.specs.steps.Tables.{Sized}
+use Rattle.search.specs.steps.Judging.{Tells}
 use Rattle.search.proofs.TableLaws.{same-table}
 use Rattle.search.proofs.Tested.{search-passed, route-passed}
 
@@ -50,6 +53,24 @@ search-determined book r turns links one other t l t′ l′ (done counts e a b)
 search-determined book r turns links one other t l t′ l′ (done counts e a b) (done counts′ e′ a′ b′) =
     let same : counts′ ≡ counts = cc in
     (a ∙ sym a′, labels-one book counts (search-passed book r turns links counts e .0) r t l t′ l′ b (subst (λ (x : Counts). TrueLabels (viewOf book x) r t′ l′) same b′))
+
+-- a search ignores what the buffers held
+pub search-ignores : (book : List ℕ) (r : ℕ) (turns links turns-too links-too turns-one links-one turns-other links-other : Table) → Search book r turns links SearchDone turns-one links-one → Search book r turns-too links-too SearchDone turns-other links-other
+    → (turns-one ≡ turns-other) × (links-one ≡ links-other)
+search-ignores book r turns links turns-too links-too t l t′ l′ (refused found e a b c) second = clash (cc)
+search-ignores book r turns links turns-too links-too t l t′ l′ (done counts e a b) (refused found′ e′ a′ b′ c′) = clash (cc)
+search-ignores book r turns links turns-too links-too t l t′ l′ (done counts e a b) (done counts′ e′ a′ b′) =
+    let good = search-passed book r turns links counts e .0 in
+    let good-too = search-passed book r turns-too links-too counts′ e′ .0 in
+    let same : counts′ ≡ counts = cc (good, good-too) in
+    labels-one book counts good r t l t′ l′ b (subst (λ (x : Counts). TrueLabels (viewOf book x) r t′ l′) same b′)
+
+-- the judge tells whether labels are true, so two answers to one question are equal
+pub judge-determined : (A : Type 0) (one other : Bool) → Tells one A → Tells other A → one ≡ other
+judge-determined A true true a b = refl
+judge-determined A true false a b = absurd (b a)
+judge-determined A false true a b = absurd (a b)
+judge-determined A false false a b = refl
 
 module _ (U : View) (good : GoodView U) (r s : ℕ) (buffer : List ℕ) where
   -- a walk that has room and one that has none are not both the route

@@ -9,8 +9,9 @@ use native.Mathlib.Numerals.{add-one}
 use lib.ListN.{length, getD, take, drop, take-append-drop}
 use lib.Seq.{take-suc}
 use Rattle.walk.specs.Labels.{Entry}
+use Rattle.search.specs.steps.Tables.{ownLabel}
 use Rattle.search.specs.steps.Picking.{LeastOf}
-use Rattle.search.specs.steps.Candidates.{ownLabel, comesBefore, chosenIf, earlier, AllBelow, FirstAmong, Gathered}
+use Rattle.search.specs.steps.Candidates.{comesBefore, chosenIf, earlier, AllBelow, FirstAmong, Gathered}
 use Rattle.search.proofs.LabelOrder.{never-sooner, sooner-still, test-holds, test-fails, later}
 use Rattle.search.proofs.Gathering.{refuted, one-of-more, on-list, listed}
 

@@ -20,9 +20,8 @@ use Rattle.walk.proofs.Literal.{holds, shown}
 use Rattle.walk.proofs.CaseTests.{entry-same}
 use Rattle.walk.proofs.ChosenLaws.{Limited, turn-bounded}
 use Rattle.walk.proofs.LabelLaws.{reading-none, local-true, local-links-true}
-use Rattle.search.specs.steps.Tables.{standsAs, goesAhead, Sized}
+use Rattle.search.specs.steps.Tables.{standsAs, goesAhead, Sized, ownLabel}
 use Rattle.search.specs.steps.Starts.{startEntry, aloneEntry}
-use Rattle.search.specs.steps.Candidates.{ownLabel}
 use Rattle.search.specs.steps.Passing.{onwardTo}
 use Rattle.search.specs.steps.Judging.{everyBelow, limited, overtaken, backLeads, reachedStands, turnStands, endLeads, linkStands, allStand, Tells}
 use Rattle.search.proofs.EveryBelow.{every-at, every-holds}

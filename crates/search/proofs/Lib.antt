@@ -21,3 +21,4 @@ pub mod Judged
 pub mod Tested
 pub mod RouteLaws
 pub mod Determined
+pub mod NoRouteA

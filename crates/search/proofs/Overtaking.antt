@@ -15,8 +15,7 @@ use Rattle.walk.specs.Labels.{Entry, Table, entryAt}
 use Rattle.walk.specs.steps.Pairs.{stepTo, secondsMore}
 use Rattle.walk.specs.steps.ViewNet.{isOpen, mayFollow}
 use Rattle.walk.proofs.OneMore.{stepped}
-use Rattle.search.specs.steps.Tables.{standsAs, goesAhead}
-use Rattle.search.specs.steps.Candidates.{ownLabel}
+use Rattle.search.specs.steps.Tables.{standsAs, goesAhead, ownLabel}
 use Rattle.search.specs.steps.Passing.{onwardTo}
 use Rattle.search.specs.steps.Judging.{limited, overtakenBy, overtaken, steppedBy, backLeads, reachedStands, everyBelow}
 use Rattle.search.proofs.Offers.{step-as}

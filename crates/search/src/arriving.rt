@@ -4,7 +4,7 @@ use super::Label;
 use super::figures::NO_WALK;
 use super::figures::UNREACHED;
 use super::labels::goes_ahead;
-use super::picking::own_label;
+use super::labels::own_label;
 use book::Counts;
 use book::LinkNumber;
 use book::NodeNumber;

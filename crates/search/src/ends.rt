@@ -1,7 +1,7 @@
 // The links' entries in one pass over the turns.
-use super::Label;
 use super::figures::UNREACHED;
 use super::labels::offer;
+use super::labels::own_label;
 use book::Counts;
 use book::TurnNumber;
 use walk::turn_second;
@@ -32,16 +32,11 @@ fn end_turn(
     requires { ⌜ Sized (counts .links) (three (now cost) (now links) (now back)) ⌝ }
     ensures { λ _. ⌜ three (now (cost .exit)) (now (links .exit)) (now (back .exit)) ≡ endedOnce (turnSecond (turnTable (now (book .entry)) counts)) (now («turn_cost» .entry)) (now («turn_links» .entry)) (turn .0) (three (now (cost .entry)) (now (links .entry)) (now (back .entry))) ⌝ }
 {
-    let seconds = turn_cost[turn.0 as usize];
-    if seconds == UNREACHED {
+    if turn_cost[turn.0 as usize] == UNREACHED {
         return;
     }
     let link = turn_second(book, counts, turn);
-    let label = Label {
-        cost: seconds,
-        links: turn_links[turn.0 as usize],
-        back: turn.0,
-    };
+    let label = own_label(turn_cost, turn_links, turn.0);
     offer(cost, links, back, link.0 as usize, label);
 }
 

@@ -5,8 +5,9 @@ use super::labels::goes_ahead;
 use super::labels::is_none;
 use super::labels::label_at;
 use super::labels::limited;
+use super::labels::one_turn_on;
+use super::labels::own_label;
 use super::labels::same_label;
-use super::picking::own_label;
 use super::starts::alone;
 use super::starts::start_of;
 use book::Counts;
@@ -36,8 +37,7 @@ ghost use Rattle.walk.specs.View.{viewWith, viewOf, walksOf};
 ghost use Rattle.walk.specs.Walks.{lookUp};
 ghost use Rattle.walk.specs.Labels.{entryAt, TrueLabels, three};
 ghost use Rattle.walk.specs.steps.Pairs.{listedAt, stepTo};
-ghost use Rattle.search.specs.steps.Tables.{asEntry, goesAhead, Sized};
-ghost use Rattle.search.specs.steps.Candidates.{ownLabel};
+ghost use Rattle.search.specs.steps.Tables.{asEntry, goesAhead, Sized, ownLabel};
 ghost use Rattle.search.specs.steps.Judging.{everyBelow, limited as isLimited, overtakenBy, overtaken, steppedBy, backLeads, reachedStands, turnStands, endLeads, linkStands, Tells};
 
 // Whether what turn `before`, of this cost and these links, offers a turn goes ahead of its label; the pairs of `before` end at `to`, and those before `at` are of earlier turns.
@@ -63,11 +63,7 @@ fn is_overtaken(
     match step_to(book, counts, walks, stands, turn) {
         Step::Barred => false,
         Step::Seconds(more) => {
-            let offered = Label {
-                cost: label.cost + more,
-                links: label.links + 1,
-                back: before.0,
-            };
+            let offered = one_turn_on(label.cost, label.links, more, before);
             goes_ahead(offered, label_at(cost, links, back, turn.0 as usize))
         }
     }
@@ -151,11 +147,7 @@ fn back_leads(
     match step_to(book, counts, walks, stands, turn) {
         Step::Barred => false,
         Step::Seconds(more) => {
-            let offered = Label {
-                cost: before.cost + more,
-                links: before.links + 1,
-                back: label.back,
-            };
+            let offered = one_turn_on(before.cost, before.links, more, TurnNumber(label.back));
             same_label(label, offered)
         }
     }

@@ -3,12 +3,13 @@ use super::Label;
 use super::figures::MOST_WALK_LINKS;
 use super::figures::MOST_WALK_SECONDS;
 use super::figures::NO_WALK;
+use book::TurnNumber;
 ghost use mathlib.Core.Path.{_≡_};
-ghost use Prim.Native.Nat.{_<_};
+ghost use Prim.Native.Nat.{_+_, _<_};
 ghost use lib.ListN.{length};
 ghost use Rattle.walk.specs.Labels.{entryAt, three};
 ghost use Rattle.walk.specs.steps.ViewNet.{isNone};
-ghost use Rattle.search.specs.steps.Tables.{asEntry, standsAs, placed, goesAhead, offered};
+ghost use Rattle.search.specs.steps.Tables.{asEntry, ownLabel, oneTurnOn, standsAs, placed, goesAhead, offered};
 ghost use Rattle.search.specs.steps.Judging.{limited};
 
 pub fn label_at(cost: &[u32], links: &[u16], back: &[u16], at: usize) -> Label
@@ -19,6 +20,30 @@ pub fn label_at(cost: &[u32], links: &[u16], back: &[u16], at: usize) -> Label
         cost: cost[at],
         links: links[at],
         back: back[at],
+    }
+}
+
+// What a turn or a link offers: its figures, and its own number as the back.
+pub fn own_label(cost: &[u32], links: &[u16], own: u16) -> Label
+    requires { ⌜ (own < length (now cost)) × (own < length (now links)) ⌝ }
+    ensures { λ r. ⌜ asEntry r ≡ ownLabel (now (cost .entry)) (now (links .entry)) own ⌝ }
+{
+    Label {
+        cost: cost[own as usize],
+        links: links[own as usize],
+        back: own,
+    }
+}
+
+// The label of a walk with one turn more, by these seconds.
+pub fn one_turn_on(cost: u32, links: u16, more: u32, before: TurnNumber) -> Label
+    requires { ⌜ (cost + more < 4294967296) × (links < 65535) ⌝ }
+    ensures { λ r. ⌜ asEntry r ≡ oneTurnOn cost links more (before .0) ⌝ }
+{
+    Label {
+        cost: cost + more,
+        links: links + 1,
+        back: before.0,
     }
 }
 

@@ -9,7 +9,7 @@ ghost use Rattle.book.specs.declared.Checked.the-variants.{Good};
 ghost use Rattle.book.specs.Number.{numberAt};
 ghost use Rattle.book.specs.Entries.{secondsGood};
 ghost use Rattle.book.specs.Check.{checkOf};
-ghost use Rattle.book.specs.Walk.{withWalk};
+ghost use Rattle.book.specs.Changes.{withWalk};
 
 pub fn check(book: &[u8]) -> Checked
     ensures { λ r. ⌜ r ≡ checkOf (now (book .entry)) ⌝ }

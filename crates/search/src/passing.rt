@@ -1,6 +1,6 @@
 // A settled turn's label passed on to the turns that may follow it.
-use super::Label;
 use super::labels::offer;
+use super::labels::one_turn_on;
 use book::Counts;
 use book::TurnNumber;
 use walk::Step;
@@ -47,11 +47,7 @@ fn pass(
     match step_to(book, counts, walks, stands, turn) {
         Step::Barred => {}
         Step::Seconds(more) => {
-            let label = Label {
-                cost: cost_before + more,
-                links: links_before + 1,
-                back: before.0,
-            };
+            let label = one_turn_on(cost_before, links_before, more, before);
             offer(cost, links, back, turn.0 as usize, label);
         }
     }

@@ -1,17 +1,17 @@
 // Picking the next turn to settle.
-use super::Label;
 use super::Picked;
 use super::figures::UNREACHED;
 use super::labels::goes_ahead;
+use super::labels::own_label;
 use book::MOST_TURNS;
 use book::TurnNumber;
 ghost use mathlib.Core.Path.{_≡_};
 ghost use Prim.Native.Nat.{_<_, _≤_};
 ghost use lib.ListN.{length};
 ghost use Rattle.book.specs.Header.{mostTurns};
-ghost use Rattle.search.specs.steps.Tables.{asEntry};
+ghost use Rattle.search.specs.steps.Tables.{asEntry, ownLabel};
 ghost use Rattle.search.specs.steps.Picking.{isCandidate, Picks};
-ghost use Rattle.search.specs.steps.Candidates.{Gathered, ownLabel, comesBefore, earlier, AllBelow, FirstAmong};
+ghost use Rattle.search.specs.steps.Candidates.{Gathered, comesBefore, earlier, AllBelow, FirstAmong};
 
 // Whether a turn is reached and not settled.
 fn is_candidate(cost: &[u32], settled: &[u8], turn: usize) -> bool
@@ -37,18 +37,6 @@ fn gather(cost: &[u32], settled: &[u8], candidates: &mut [u16]) -> usize
             count += 1;
         }
         turn += 1;
-    }
-}
-
-// What a turn or a link offers: its figures, and its own number as the back.
-pub fn own_label(cost: &[u32], links: &[u16], own: u16) -> Label
-    requires { ⌜ (own < length (now cost)) × (own < length (now links)) ⌝ }
-    ensures { λ r. ⌜ asEntry r ≡ ownLabel (now (cost .entry)) (now (links .entry)) own ⌝ }
-{
-    Label {
-        cost: cost[own as usize],
-        links: links[own as usize],
-        back: own,
     }
 }
 

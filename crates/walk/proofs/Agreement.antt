@@ -5,7 +5,7 @@ use mathlib.Core.Logic.{inl, inr}
 use mathlib.Core.List.{List, reverse, reverse-reverse}
 use mathlib.Core.Bool.{_&&_}
 use lib.Dec.{T, eqb}
-use Rattle.walk.specs.View.{View, Agree}
+use Rattle.walk.specs.View.{View}
 use Rattle.walk.specs.Walks.{between, allowed, seconds, linkCost}
 use Rattle.walk.specs.Labels.{Key, Less, keyOf, Better, Chosen, Route, Entry, startBack, TrueTurn, TrueLink}
 use Rattle.walk.specs.steps.Net.{Walks, Back}
@@ -16,6 +16,21 @@ use Rattle.walk.proofs.GoodView.{GoodView}
 use Rattle.walk.proofs.KeyLaws.{laws}
 use Rattle.walk.proofs.TrueEntries.{Matches, node-matches}
 use Rattle.walk.proofs.LabelLaws.{turn-inside, turn-outside, link-inside, link-outside}
+
+-- two views say the same within their tables
+pub record Agree (U other : View) : Type 0 where
+  pub nodes : U .nodes ≡ other .nodes
+  pub links : U .links ≡ other .links
+  pub turns : U .turns ≡ other .turns
+  pub from : (l : ℕ) → l < U .links → U .from l ≡ other .from l
+  pub to : (l : ℕ) → l < U .links → U .to l ≡ other .to l
+  pub ride : (l : ℕ) → l < U .links → U .ride l ≡ other .ride l
+  pub headway : (l : ℕ) → l < U .links → U .headway (U .line l) ≡ other .headway (other .line l)
+  pub first : (t : ℕ) → t < U .turns → U .first t ≡ other .first t
+  pub second : (t : ℕ) → t < U .turns → U .second t ≡ other .second t
+  pub walk : (t : ℕ) → t < U .turns → U .walk t ≡ other .walk t
+  pub listed : (p t : ℕ) → p < U .turns → t < U .turns → U .listed p t ≡ other .listed p t
+  pub carry-over : U .carry-over ≡ other .carry-over
 
 module _ (U other : View) (good : GoodView U) (agree : Agree U other) where
   pub back : Agree other U

@@ -9,7 +9,7 @@ use Rattle.book.specs.declared.Checked.the-variants.{Good}
 use Rattle.book.specs.Number.{numberAt, withNumber}
 use Rattle.book.specs.Entries.{secondsGood}
 use Rattle.book.specs.Check.{checkOf}
-use Rattle.book.specs.Walk.{withWalk}
+use Rattle.book.specs.Changes.{Change, withWalk, withChanges}
 use Rattle.book.specs.BookA.{bookA, countsA}
 use Rattle.book.proofs.Limits.{both}
 use Rattle.book.proofs.BookA.{book-a-good}
@@ -17,38 +17,38 @@ use Rattle.book.proofs.WalkWritten.{walk-written}
 use Rattle.walk.specs.View.{walksOf, listedIn, upTo}
 use Rattle.walk.specs.Walks.{lookUp}
 use Rattle.walk.specs.Counting.{sameEntry, differing}
-use Rattle.walk.specs.Cases.{Edit, Case, edited, cases, viewA, All, Holds}
+use Rattle.walk.specs.Cases.{Case, changedA, cases, viewA, All, Holds}
 use Rattle.walk.specs.steps.Rows.{roundsOf}
 use Rattle.walk.proofs.GoodView.{GoodView, good-view}
 use Rattle.walk.proofs.CaseTests.{settled, turnAt, linkAt, routeAt, routeLinks, passes, allPass, claims-hold}
 
-abbrev editsGood : List Edit → Bool
-editsGood [] = true
-editsGood (e ∷ rest) = (ltb (e .turn) (countsA .turns) && secondsGood (e .walk)) && editsGood rest
+abbrev changesGood : List Change → Bool
+changesGood [] = true
+changesGood (e ∷ rest) = (ltb (e .turn) (countsA .turns) && secondsGood (e .walk)) && changesGood rest
 
 -- book A with allowed walks is a good book with its counts
-edited-good : (book : List ℕ) (edits : List Edit) → checkOf book ≡ Good countsA → editsGood edits ≡ true → checkOf (edited book edits) ≡ Good countsA
-edited-good book [] good h = good
-edited-good book (e ∷ rest) good h =
-    let (here, later) = both (ltb (e .turn) (countsA .turns) && secondsGood (e .walk)) (editsGood rest) h in
+changed-good : (book : List ℕ) (changes : List Change) → checkOf book ≡ Good countsA → changesGood changes ≡ true → checkOf (withChanges book countsA changes) ≡ Good countsA
+changed-good book [] good h = good
+changed-good book (e ∷ rest) good h =
+    let (here, later) = both (ltb (e .turn) (countsA .turns) && secondsGood (e .walk)) (changesGood rest) h in
     let (turn, walk) = both (ltb (e .turn) (countsA .turns)) (secondsGood (e .walk)) here in
-    edited-good (withWalk book countsA (e .turn) (e .walk)) rest (walk-written book countsA (e .turn) (e .walk) good (ltb-true _ _ turn) .good walk) later
+    changed-good (withWalk book countsA (e .turn) (e .walk)) rest (walk-written book countsA (e .turn) (e .walk) good (ltb-true _ _ turn) .good walk) later
 
 abbrev caseGood : Case → Bool
-caseGood c = editsGood (c .edits) && (settled (viewA (c .edits)) && allPass (viewA []) (viewA (c .edits)) (c .claims))
+caseGood c = changesGood (c .changes) && (settled (viewA (c .changes)) && allPass (viewA []) (viewA (c .changes)) (c .claims))
 
 abbrev casesGood : List Case → Bool
 casesGood [] = true
 casesGood (c ∷ rest) = caseGood c && casesGood rest
 
-good-a : (edits : List Edit) → editsGood edits ≡ true → GoodView (viewA edits)
-good-a edits h = good-view (edited bookA edits) countsA (walksOf (edited bookA edits) countsA) (edited-good bookA edits book-a-good h)
+good-a : (changes : List Change) → changesGood changes ≡ true → GoodView (viewA changes)
+good-a changes h = good-view (changedA changes) countsA (walksOf (changedA changes) countsA) (changed-good bookA changes book-a-good h)
 
 case-holds : (c : Case) → settled (viewA []) ≡ true → caseGood c ≡ true → Holds c
 case-holds c a h =
-    let (edits, rest) = both (editsGood (c .edits)) (settled (viewA (c .edits)) && allPass (viewA []) (viewA (c .edits)) (c .claims)) h in
-    let (steady, pass) = both (settled (viewA (c .edits))) (allPass (viewA []) (viewA (c .edits)) (c .claims)) rest in
-    (edited-good bookA (c .edits) book-a-good edits, claims-hold (viewA []) (viewA (c .edits)) (good-a [] refl) (good-a (c .edits) edits) a steady (c .claims) pass)
+    let (changes, rest) = both (changesGood (c .changes)) (settled (viewA (c .changes)) && allPass (viewA []) (viewA (c .changes)) (c .claims)) h in
+    let (steady, pass) = both (settled (viewA (c .changes))) (allPass (viewA []) (viewA (c .changes)) (c .claims)) rest in
+    (changed-good bookA (c .changes) book-a-good changes, claims-hold (viewA []) (viewA (c .changes)) (good-a [] refl) (good-a (c .changes) changes) a steady (c .claims) pass)
 
 all-hold : (list : List Case) → settled (viewA []) ≡ true → casesGood list ≡ true → All Holds list
 all-hold [] a h = tt

@@ -2,7 +2,7 @@
 use Prim.Native.Nat.{ℕ, suc, _<_}
 use mathlib.Core.List.{List, reverse}
 use Rattle.walk.specs.View.{View}
-use Rattle.walk.specs.Labels.{Key, Entry, TrueTurn, TrueLink, Reaches, by-route, by-none}
+use Rattle.walk.specs.Labels.{Key, Entry, TrueTurn, TrueLink, NodeWalk, Route}
 use Rattle.walk.specs.steps.Net as net-walks
 use Rattle.walk.specs.steps.Net.{Entry as Reached, TrueTurns, TrueLinks}
 use Rattle.walk.specs.steps.Sweep.{linkEntry, routeEntry}
@@ -14,6 +14,11 @@ use Rattle.walk.proofs.GoodView.{GoodView}
 use Rattle.walk.proofs.KeyLaws.{laws}
 use Rattle.walk.proofs.CaseTests.{tested}
 use Rattle.walk.proofs.TrueEntries.{true-outward, chosen-outward, turn-matches, link-matches, node-matches}
+
+-- a destination has its route, or no permitted walk leads to it
+pub data Reaches (U : View) (r s : ℕ) : Type 0 where
+  by-route : (links : List ℕ) → Route U r s links → Reaches U r s
+  by-none : ((links : List ℕ) → NodeWalk U r s links → ⊥) → Reaches U r s
 
 module _ (U : View) (good : GoodView U) (r : ℕ) where
   -- the computed entries
@@ -37,7 +42,6 @@ module _ (U : View) (good : GoodView U) (r : ℕ) where
   pub link-exists : (l : ℕ) → l < U .links → (e : Entry) × TrueLink U r l e
   link-exists l m = (figures (linkInside l), true-outward U r _ _ _ (link-matches U good r l) (linkInside l) (links-inside l m))
 
-  -- a destination has a route, or no permitted walk leads to it
   pub reaches : (s : ℕ) → Reaches U r s
   reaches s = by (routeEntry Key (net U r) keyLess linkInside r s) (route-true Key (net U r) (laws U good r) keyLess (tested U r) linkInside links-inside r s)
     where

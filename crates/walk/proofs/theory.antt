@@ -1,7 +1,6 @@
 pub mod Backs
 pub mod Certificate
 pub mod Destination
-pub mod Forward
 pub mod Laws
 pub mod Least
 pub mod Offer

@@ -4,28 +4,24 @@ use mathlib.Core.Path.{_≡_}
 use mathlib.Core.List.{List, [], _∷_}
 use lib.ListN.{length, getD}
 use Rattle.book.specs.declared.Checked.the-variants.{Good}
+use Rattle.book.specs.Entries.{barred}
 use Rattle.book.specs.Check.{checkOf}
 use Rattle.book.specs.BookA.{bookA, countsA}
-use Rattle.book.specs.Walk.{withWalk}
+use Rattle.book.specs.Changes.{Change, withChanges}
 use Rattle.walk.specs.View.{View, viewOf}
 use Rattle.walk.specs.Walks.{costOf}
 use Rattle.walk.specs.Labels.{Entry, TrueTurn, TrueLink, NodeWalk, Route, noEntry, startBack}
 use Rattle.walk.specs.Counting.{differing}
 
--- turns of book A with a new walk
-pub record Edit : Type 0 where
-  pub turn : ℕ
-  pub walk : ℕ
+-- changes of book A
+abbrev pub setTo : ℕ → ℕ → Change
+setTo turn walk = record { turn = turn; walk = walk }
 
-abbrev pub set : ℕ → ℕ → Edit
-set turn walk = record { turn = turn; walk = walk }
+abbrev pub closed : ℕ → Change
+closed turn = setTo turn barred
 
-abbrev pub closed : ℕ → Edit
-closed turn = set turn 65535
-
-abbrev pub edited : List ℕ → List Edit → List ℕ
-edited book [] = book
-edited book (e ∷ rest) = edited (withWalk book countsA (e .turn) (e .walk)) rest
+abbrev pub changedA : List Change → List ℕ
+changedA changes = withChanges bookA countsA changes
 
 abbrev pub entry : ℕ → ℕ → ℕ → Entry
 entry cost links back = record { cost = cost; links = links; back = back }
@@ -41,11 +37,11 @@ pub data Claim : Type 0 where
   countsAre : ℕ → ℕ → Claim
 
 pub record Case : Type 0 where
-  pub edits : List Edit
+  pub changes : List Change
   pub claims : List Claim
 
-abbrev pub after : List Edit → List Claim → Case
-after edits claims = record { edits = edits; claims = claims }
+abbrev pub after : List Change → List Claim → Case
+after changes claims = record { changes = changes; claims = claims }
 
 -- P1 to P10, in this order
 abbrev pub cases : List Case
@@ -56,10 +52,10 @@ cases =
     ∷ after [] (routeIs 0 0 [] ∷ [])
     ∷ after (closed 3 ∷ []) (countsAre 2 1 ∷ routeIs 3 442 (4 ∷ 2 ∷ []) ∷ [])
     ∷ after (closed 3 ∷ closed 4 ∷ []) (noRoute 3 ∷ [])
-    ∷ after (set 3 0 ∷ []) (routeCosts 3 238 ∷ [])
-    ∷ after (set 3 103 ∷ []) (routeIs 3 441 (0 ∷ 1 ∷ 3 ∷ 1 ∷ 2 ∷ []) ∷ [])
-    ∷ after (set 3 104 ∷ []) (routeIs 3 442 (4 ∷ 2 ∷ []) ∷ [])
-    ∷ after (set 0 10 ∷ []) (countsAre 4 3 ∷ routeCosts 3 352 ∷ [])
+    ∷ after (setTo 3 0 ∷ []) (routeCosts 3 238 ∷ [])
+    ∷ after (setTo 3 103 ∷ []) (routeIs 3 441 (0 ∷ 1 ∷ 3 ∷ 1 ∷ 2 ∷ []) ∷ [])
+    ∷ after (setTo 3 104 ∷ []) (routeIs 3 442 (4 ∷ 2 ∷ []) ∷ [])
+    ∷ after (setTo 0 10 ∷ []) (countsAre 4 3 ∷ routeCosts 3 352 ∷ [])
     ∷ []
 
 pub record Table (count : ℕ) (TrueAt : ℕ → Entry → Type 0) (rows : List Entry) : Type 0 where
@@ -82,7 +78,7 @@ pub record CountsAre (U changed : View) (turns links : ℕ) : Type 0 where
   pub turn-count : differing turn-before turn-after (U .turns) ≡ turns
   pub link-count : differing link-before link-after (U .links) ≡ links
 
--- what a claim says, of book A as given and of the edited one
+-- what a claim says, of book A as given and of the changed one
 abbrev pub Says : View → View → Claim → Type 0
 Says U changed (turnsAre rows) = Table (changed .turns) (TrueTurn changed 0) rows
 Says U changed (linksAre rows) = Table (changed .links) (TrueLink changed 0) rows
@@ -95,9 +91,9 @@ abbrev pub All : {A : Type 0} → (A → Type 0) → List A → Type 0
 All P [] = Unit {0}
 All P (a ∷ rest) = P a × All P rest
 
-abbrev pub viewA : List Edit → View
-viewA edits = viewOf (edited bookA edits) countsA
+abbrev pub viewA : List Change → View
+viewA changes = viewOf (changedA changes) countsA
 
--- the edited book is good, and every claim of the case holds
+-- the changed book is good, and every claim of the case holds
 abbrev pub Holds : Case → Type 0
-Holds c = (checkOf (edited bookA (c .edits)) ≡ Good countsA) × All (Says (viewA []) (viewA (c .edits))) (c .claims)
+Holds c = (checkOf (changedA (c .changes)) ≡ Good countsA) × All (Says (viewA []) (viewA (c .changes))) (c .claims)

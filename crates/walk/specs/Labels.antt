@@ -86,11 +86,6 @@ TrueLink U r l entry = True U (LinkWalk U r l) (linkBack U) entry
 abbrev pub Route : View → ℕ → ℕ → List ℕ → Type 0
 Route U r s links = Chosen U (NodeWalk U r s) links
 
--- a destination has its route, or no permitted walk leads to it
-pub data Reaches (U : View) (r s : ℕ) : Type 0 where
-  by-route : (links : List ℕ) → Route U r s links → Reaches U r s
-  by-none : ((links : List ℕ) → NodeWalk U r s links → ⊥) → Reaches U r s
-
 -- labels lie in lent buffers: cost, links and back, one of each an entry
 pub record Table : Type 0 where
   pub cost : List ℕ

@@ -9,7 +9,7 @@ use Rattle.book.specs.Check.{checkOf}
 use Rattle.book.specs.BookA.{bookA, countsA, written}
 use Rattle.walk.specs.View.{View, viewOf}
 use Rattle.walk.specs.Labels.{Entry, noEntry, TrueTurn, TrueLink, Route}
-use Rattle.walk.specs.Cases.{closed, edited, entry}
+use Rattle.walk.specs.Cases.{closed, changedA, entry}
 
 pub data Sheet : Type 0 where
   -- a turn's entry, a link's entry
@@ -69,13 +69,13 @@ sheets =
     ∷ ofBook bookA countsA (turnEntry 1 noEntry)
     ∷ ofBook bookA countsA (linkEntry 2 (entry 442 2 4))
     -- a price of 900 in place of a ban gives a banned walk a cost
-    ∷ ofBook (edited bookA (closed 3 ∷ closed 4 ∷ [])) countsA (turnEntry 1 (entry 1025 3 0))
-    ∷ ofBook (edited bookA (closed 3 ∷ closed 4 ∷ [])) countsA (routeTo 3 (0 ∷ 1 ∷ 2 ∷ []))
+    ∷ ofBook (changedA (closed 3 ∷ closed 4 ∷ [])) countsA (turnEntry 1 (entry 1025 3 0))
+    ∷ ofBook (changedA (closed 3 ∷ closed 4 ∷ [])) countsA (routeTo 3 (0 ∷ 1 ∷ 2 ∷ []))
     -- backs chosen by cost alone run in a circle
     ∷ ofBook circle countsOfCircle (turnEntry 0 (entry 0 2 1))
     ∷ ofBook circle countsOfCircle (turnEntry 0 (entry 0 4 1))
     -- a closing that wipes its own entry only still leads through the closed turn
-    ∷ ofBook (edited bookA (closed 3 ∷ [])) countsA (turnEntry 1 (entry 342 5 3))
+    ∷ ofBook (changedA (closed 3 ∷ [])) countsA (turnEntry 1 (entry 342 5 3))
     -- the carry-over on top of a listed extra
     ∷ ofBook listedAtZero countsA (turnEntry 1 (entry 235 3 0))
     -- ties settled by the first link, not by the last difference

@@ -1,6 +1,5 @@
 -- What the rules for walks read of a book, made from its bytes and the walks as seen, one number a turn.
-use Prim.Native.Nat.{ℕ, zero, suc, _<_}
-use mathlib.Core.Path.{_≡_}
+use Prim.Native.Nat.{ℕ, zero, suc}
 use mathlib.Core.List.{List, [], _∷_, _++_}
 use mathlib.Core.Bool.{Bool, true, false, _&&_}
 use mathlib.Core.Option.{Option, none, some}
@@ -69,18 +68,3 @@ walksOf book counts = upTo (counts .turns) (turnWalk (turnTable book counts))
 
 abbrev pub viewOf : List ℕ → Counts → View
 viewOf book counts = viewWith book counts (walksOf book counts)
-
--- two views say the same within their tables
-pub record Agree (U other : View) : Type 0 where
-  pub nodes : U .nodes ≡ other .nodes
-  pub links : U .links ≡ other .links
-  pub turns : U .turns ≡ other .turns
-  pub from : (l : ℕ) → l < U .links → U .from l ≡ other .from l
-  pub to : (l : ℕ) → l < U .links → U .to l ≡ other .to l
-  pub ride : (l : ℕ) → l < U .links → U .ride l ≡ other .ride l
-  pub headway : (l : ℕ) → l < U .links → U .headway (U .line l) ≡ other .headway (other .line l)
-  pub first : (t : ℕ) → t < U .turns → U .first t ≡ other .first t
-  pub second : (t : ℕ) → t < U .turns → U .second t ≡ other .second t
-  pub walk : (t : ℕ) → t < U .turns → U .walk t ≡ other .walk t
-  pub listed : (p t : ℕ) → p < U .turns → t < U .turns → U .listed p t ≡ other .listed p t
-  pub carry-over : U .carry-over ≡ other .carry-over

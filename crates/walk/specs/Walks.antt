@@ -40,7 +40,7 @@ abbrev pub carriedIf : Bool → ℕ → Between
 carriedIf true carried = CarriedOver carried
 carriedIf false carried = Nothing
 
--- the listed extra stands; if the pair is unlisted, the carry-over where both walks are above 0, else nothing
+-- document 004's cost between two turns: the listed extra stands; if the pair is unlisted, the carry-over where both walks are above 0, else nothing
 unfoldable pub lookUp : Option ℕ → ℕ → ℕ → ℕ → Between
 lookUp (some extra) carried before after = listedAs (eqb extra barred) extra
 lookUp none carried before after = carriedIf (ltb 0 before && ltb 0 after) carried
@@ -76,7 +76,7 @@ permitted U r links =
     && all (map (λ t. not (eqb (U .walk t) barred)) (turnsOf U links))
     && all (twos (λ p t. allowed (between U p t)) (turnsOf U links))
 
--- half a line's headway, rounded up
+-- half a line's headway (document 004, equation 6), rounded up
 abbrev pub half : ℕ → ℕ
 half headway = (headway + 1) / 2
 

@@ -7,4 +7,3 @@ pub mod Sweep
 pub mod Reading
 pub mod Settling
 pub mod Rows
-pub mod Forward

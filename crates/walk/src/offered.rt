@@ -12,7 +12,7 @@ ghost use Rattle.book.specs.Number.{numberAt};
 ghost use Rattle.book.specs.Tables.{linkTable, turnTable};
 ghost use Rattle.book.specs.Entries.{linkFrom, linkTo, turnFirst, turnSecond, secondsGood};
 ghost use Rattle.book.specs.Check.{checkOf};
-ghost use Rattle.book.specs.Walk.{withWalk};
+ghost use Rattle.book.specs.Changes.{withWalk};
 
 pub fn check(book: &[u8]) -> Checked
     ensures { λ r. ⌜ r ≡ checkOf (now (book .entry)) ⌝ }

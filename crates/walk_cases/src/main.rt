@@ -4,6 +4,7 @@ use cases::book_a;
 use cases::put;
 use cases::say;
 use cases::say_expected;
+use cases::say_expected_beyond;
 use cases::say_name;
 use cases::say_number;
 use cases::say_refusal;
@@ -153,14 +154,19 @@ fn run_loop(name: &[u8], length: usize, expected: &[u8]) {
     run_front(name, &links, length, expected);
 }
 
+fn too_long() {
+    let book = book_a();
+    let mut links = [0u16; 65536];
+    put_loop(&mut links);
+    say_name(b"65536 links, which this layer does not take");
+    say_costed(cost_of(&book, NodeNumber(1), &links));
+    say_expected_beyond(b"too long");
+}
+
 fn long() {
     run_loop(b"4097 links", 4097, b"permitted at 239666");
     run_loop(b"65535 links", 65535, b"permitted at 3833789");
-    run_loop(
-        b"65536 links, which this layer does not take",
-        65536,
-        b"too long",
-    );
+    too_long();
 }
 
 fn main() {

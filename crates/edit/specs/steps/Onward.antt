@@ -4,7 +4,7 @@ use mathlib.Core.Path.{_≡_}
 use mathlib.Core.List.{List}
 use Rattle.book.specs.declared.Counts.{Counts}
 use Rattle.book.specs.declared.Checked.the-variants.{Good}
-use Rattle.book.specs.Walk.{withWalk}
+use Rattle.book.specs.Changes.{withWalk}
 use Rattle.walk.specs.View.{viewOf}
 use Rattle.walk.specs.Labels.{Table, entryAt, TrueLabels}
 use Rattle.walk.specs.Counting.{differing}

@@ -7,7 +7,7 @@ use lib.ListN.{getD}
 use Rattle.walk.specs.Labels.{Entry, noEntry}
 use Rattle.search.specs.declared.Arrival.{Arrival}
 use Rattle.search.specs.declared.Arrival.the-variants.{By, Nothing}
-use Rattle.search.specs.steps.Candidates.{ownLabel}
+use Rattle.search.specs.steps.Tables.{ownLabel}
 use Rattle.search.specs.steps.Passing.{offeredIf}
 
 -- whether a link is reached and enters the destination; of the links these are the nodes that they enter and the costs

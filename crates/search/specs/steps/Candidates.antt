@@ -3,9 +3,8 @@ use Prim.Native.Nat.{ℕ, zero, suc, _≤_, _<_}
 use mathlib.Core.Path.{_≡_}
 use mathlib.Core.List.{List, [], _∷_, _++_, List·Memᴰ}
 use mathlib.Core.Bool.{Bool, true, false}
-use lib.ListN.{getD, length, take}
-use Rattle.walk.specs.Labels.{Entry}
-use Rattle.search.specs.steps.Tables.{goesAhead}
+use lib.ListN.{length, take}
+use Rattle.search.specs.steps.Tables.{ownLabel, goesAhead}
 use Rattle.search.specs.steps.Picking.{isCandidate}
 
 abbrev pub addedIf : Bool → List ℕ → ℕ → List ℕ
@@ -22,11 +21,7 @@ pub record Gathered (cost settled list : List ℕ) (count : ℕ) : Type 0 where
   pub within : count ≤ length list
   pub candidates : take count list ≡ candidatesBelow cost settled (length cost)
 
--- what a turn or a link offers: its figures, and its own number as the back
-abbrev pub ownLabel : List ℕ → List ℕ → ℕ → Entry
-ownLabel cost links own = record { cost = getD cost own 0; links = getD links own 0; back = own }
-
--- so turns come by cost, then links, then number
+-- turns come by cost, then links, then number
 abbrev pub comesBefore : List ℕ → List ℕ → ℕ → ℕ → Bool
 comesBefore cost links one other = goesAhead (ownLabel cost links one) (ownLabel cost links other)
 

@@ -1,5 +1,5 @@
 -- The judge's tests: an entry is one that its start or its back offers, or none, and nothing that is offered goes ahead of it.
-use Prim.Native.Nat.{ℕ, zero, suc, _+_}
+use Prim.Native.Nat.{ℕ, zero, suc}
 use mathlib.Core.List.{List}
 use mathlib.Core.Bool.{Bool, true, false, not, _&&_, _||_}
 use lib.Dec.{ltb, leb, eqb}
@@ -9,9 +9,8 @@ use Rattle.walk.specs.declared.Step.the-variants.{Barred, Seconds}
 use Rattle.walk.specs.View.{View}
 use Rattle.walk.specs.Labels.{Entry, Table, entryAt, noEntry}
 use Rattle.walk.specs.steps.ViewNet.{mayFollow, isNone}
-use Rattle.search.specs.steps.Tables.{standsAs, goesAhead}
+use Rattle.search.specs.steps.Tables.{ownLabel, oneTurnOn, standsAs, goesAhead}
 use Rattle.search.specs.steps.Starts.{startEntry, aloneEntry}
-use Rattle.search.specs.steps.Candidates.{ownLabel}
 use Rattle.search.specs.steps.Passing.{onwardTo}
 
 -- the test holds of every number below n
@@ -26,7 +25,7 @@ limited e = leb 2 (e .links) && (leb (e .links) 4097 && leb (e .cost) 191728800)
 -- the label that turn p, of this cost and these links, offers by a step, goes ahead of an entry
 abbrev pub overtakenBy : Step → ℕ → ℕ → ℕ → Entry → Bool
 overtakenBy Barred p cost links e = false
-overtakenBy (Seconds more) p cost links e = goesAhead (record { cost = cost + more; links = links + 1; back = p }) e
+overtakenBy (Seconds more) p cost links e = goesAhead (oneTurnOn cost links more p) e
 
 -- turn t may follow turn p, and what it is offered goes ahead of its entry
 unfoldable pub overtaken : View → ℕ → ℕ → ℕ → Table → ℕ → Bool
@@ -35,7 +34,7 @@ overtaken U p cost links turns t = mayFollow U p t && goesAhead (onwardTo U p co
 -- the entry e of turn t is what the step of this kind from its back offers
 abbrev pub steppedBy : Step → Entry → Entry → Bool
 steppedBy Barred before e = false
-steppedBy (Seconds more) before e = standsAs e (record { cost = before .cost + more; links = before .links + 1; back = e .back })
+steppedBy (Seconds more) before e = standsAs e (oneTurnOn (before .cost) (before .links) more (e .back))
 
 -- the entry e of turn t is what its back offers
 unfoldable pub backLeads : View → Table → ℕ → Entry → Bool

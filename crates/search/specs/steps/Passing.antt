@@ -7,7 +7,7 @@ use Rattle.walk.specs.View.{View}
 use Rattle.walk.specs.Walks.{between, seconds, linkCost}
 use Rattle.walk.specs.Labels.{Entry, Table}
 use Rattle.walk.specs.steps.ViewNet.{mayFollow}
-use Rattle.search.specs.steps.Tables.{goesAhead, offered}
+use Rattle.search.specs.steps.Tables.{oneTurnOn, goesAhead, offered}
 
 -- from this cost and these links one more step fits the buffers
 abbrev pub StepFits : ℕ → ℕ → Type 0
@@ -16,7 +16,7 @@ StepFits cost links = (cost ≤ 4000000000) × (links < 65535)
 -- one turn, by the step to it: p's cost and links, and the step
 abbrev pub passedBy : Step → Table → ℕ → ℕ → ℕ → ℕ → Table
 passedBy Barred table p cost links t = table
-passedBy (Seconds more) table p cost links t = offered table t (record { cost = cost + more; links = links + 1; back = p })
+passedBy (Seconds more) table p cost links t = offered table t (oneTurnOn cost links more p)
 
 abbrev pub better : Bool → Entry → Entry → Entry
 better true new old = new

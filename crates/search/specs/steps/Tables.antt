@@ -1,10 +1,10 @@
 -- A label offered to one entry of a table.
-use Prim.Native.Nat.{ℕ}
+use Prim.Native.Nat.{ℕ, _+_}
 use mathlib.Core.Path.{_≡_}
 use mathlib.Core.List.{List}
 use mathlib.Core.Bool.{Bool, true, false, _&&_, _||_}
 use lib.Dec.{ltb, eqb}
-use lib.ListN.{length, set}
+use lib.ListN.{length, getD, set}
 use Rattle.walk.specs.View.{upTo}
 use Rattle.walk.specs.Labels.{Entry, Table, entryAt}
 use Rattle.walk.specs.Counting.{sameEntry}
@@ -12,6 +12,14 @@ use Rattle.search.specs.declared.Label.{Label}
 
 abbrev pub asEntry : Label → Entry
 asEntry label = record { cost = label .cost; links = label .links; back = label .back }
+
+-- what a turn or a link offers: its figures, and its own number as the back
+abbrev pub ownLabel : List ℕ → List ℕ → ℕ → Entry
+ownLabel cost links own = record { cost = getD cost own 0; links = getD links own 0; back = own }
+
+-- a walk of this cost and these links with one turn more, which goes on from turn p
+abbrev pub oneTurnOn : ℕ → ℕ → ℕ → ℕ → Entry
+oneTurnOn cost links more p = record { cost = cost + more; links = links + 1; back = p }
 
 -- an entry is this label, in every field
 abbrev pub standsAs : Entry → Entry → Bool

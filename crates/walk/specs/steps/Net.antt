@@ -101,13 +101,13 @@ module _ (K : Type 0) (N : Net K) where
   abbrev pub TrueLinks : Table K → Type 0
   TrueLinks ltab = (l : ℕ) → l < N .links → TrueLink l (ltab l)
 
-  -- what t's entry may be, by the entries of the turns before it
+  -- document 004, equations 4 and 5: what t's entry may be, by the entries of the turns before it
   pub data Cand (tab : Table K) (t : ℕ) : K → Back → Type 0 where
     fresh : T (N .begins t) → Cand tab t (N .begin t) start
     through : (p : ℕ) {k : K} {b : Back} → p < N .turns → T (N .follows p t) → tab p ≡ reached k b
         → Cand tab t (N .extend p t k) (via p)
 
-  -- what l's entry may be, by the entries of the turns
+  -- document 000, equation 2, over turns: what l's entry may be
   pub data LinkCand (tab : Table K) (l : ℕ) : K → Back → Type 0 where
     alone : T (N .leaves l) → LinkCand tab l (N .alone l) start
     ends : (t : ℕ) {k : K} {b : Back} → t < N .turns → N .second t ≡ l → tab t ≡ reached k b → LinkCand tab l k (via t)

@@ -6,14 +6,14 @@ use Rattle.book.proofs.GoodBook.{good-book}
 use Rattle.search.proofs.ends.end_turn.Statement.{statement}
 use Rattle.search.proofs.ends.end_turn.Tie as tie
 
-cast-seconds : tie.Need-cast-seconds
-cast-seconds c = search needs
+cast-if1 : tie.Need-cast-if1
+cast-if1 c = search needs
 
-mul-seconds : tie.Need-mul-seconds
-mul-seconds c = search needs
+mul-if1 : tie.Need-mul-if1
+mul-if1 c = search needs
 
-shared-slice-read-seconds : tie.Need-shared-slice-read-seconds
-shared-slice-read-seconds c = search needs
+shared-slice-read-if1 : tie.Need-shared-slice-read-if1
+shared-slice-read-if1 c = search needs
 
 returns : tie.Need-returns
 returns c = rw (eq-eqb _ _ (c .if1 .taken))
@@ -21,21 +21,15 @@ returns c = rw (eq-eqb _ _ (c .if1 .taken))
 turn-second-requires : tie.Need-turn-second-requires
 turn-second-requires c κs = search needs
 
-cast-t12 : tie.Need-cast-t12
-cast-t12 c = search needs
-
-mul-t13 : tie.Need-mul-t13
-mul-t13 c = search needs
-
-shared-slice-read-t18 : tie.Need-shared-slice-read-t18
-shared-slice-read-t18 c = search needs
+own-label-requires : tie.Need-own-label-requires
+own-label-requires c κs = search needs
 
 cast-offer : tie.Need-cast-offer
 cast-offer c = search needs
 
 offer-requires : tie.Need-offer-requires
 offer-requires c κs =
-    let answer = c .before .before .before .before .before .before in
+    let answer = c .before .before .before .before .before in
     let start = answer .before .before .before .before .before .before .before .before .before .before in
     let within = good-book _ _ (start .pre .0 .0) .turn _ (start .pre .1 .0) .second in
     let at = answer .turn-second .ensures in
@@ -52,23 +46,18 @@ same-length-3 : tie.Need-same-length-3
 same-length-3 c = search needs
 
 returns-2 : tie.Need-returns-2
-returns-2 c =
-    let offering = c .before .before .before .before .before .before in
-    let answer = offering .before .before .before .before .before .before .before in
-    rw (ne-eqb _ _ (answer .before .if1 .left), ← answer .turn-second .ensures) (offering .offer .ensures)
+returns-2 c = rw (ne-eqb _ _ (c .before .before .before .before .before .before .before .before .before .before .before .before .before .if1 .left), ← c .before .before .before .before .before .before .before .before .before .before .before .before .turn-second .ensures, ← c .before .before .before .before .before .before .before .before .before .before .before .own-label .ensures) (c .before .before .before .before .before .before .offer .ensures)
 
 pub end-turn-spec : {M : Type 1} → statement M
 end-turn-spec =
     tie.close
     (tie.spec
-    cast-seconds
-    mul-seconds
-    shared-slice-read-seconds
+    cast-if1
+    mul-if1
+    shared-slice-read-if1
     returns
     turn-second-requires
-    cast-t12
-    mul-t13
-    shared-slice-read-t18
+    own-label-requires
     cast-offer
     offer-requires
     same-length

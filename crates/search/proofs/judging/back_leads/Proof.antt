@@ -54,19 +54,13 @@ enum-told c = search needs
 enum-known-more : tie.Need-enum-known-more
 enum-known-more c = search needs
 
-add-t21 : tie.Need-add-t21
-add-t21 c =
-    let answer = c .before .before .before .before in
-    let start = c .before .before .before .before .before .before .before .before .before .before .before .before .before .before .before .before .before .before .before .before .before .before .before in
-    let walk = c .before .before .before .before .before .before .before .before .before .before .before .before .before .before .before .before .before .before .before .before .before .shared-slice-known2 .given (start .args .turn .0) .fits in
-    let limit = looked-up-limit _ _ (start .pre .0 .0) (now (start .args .walks)) _ _ (start .pre .0 .2) walk (answer .before .between-turns .ensures) (answer .step-to .ensures) (c .before .before .more .given .1) in
-    let small = limits (asEntry (c .before .before .before .before .before .before .before .before .before .before .before .before .before .label-at .result)) (held (c .before .before .before .before .before .before .before .before .before .before .before .before .limited .ensures) (c .before .before .before .before .before .before .before .before .before .before .before .if2 .left)) in
-    omega arith
-
-add-t22 : tie.Need-add-t22
-add-t22 c =
-    let small = limits (asEntry (c .before .before .before .before .before .before .before .before .before .before .before .before .before .before .label-at .result)) (held (c .before .before .before .before .before .before .before .before .before .before .before .before .before .limited .ensures) (c .before .before .before .before .before .before .before .before .before .before .before .before .if2 .left)) in
-    omega arith
+one-turn-on-requires : tie.Need-one-turn-on-requires
+one-turn-on-requires c κs =
+    let start = c .before .before .before .before .before .before .before .before .before .before .before .before .before .before .before .before .before .before .before .before .before .before in
+    let walk = c .before .before .before .before .before .before .before .before .before .before .before .before .before .before .before .before .before .before .before .before .shared-slice-known2 .given (start .args .turn .0) .fits in
+    let limit = looked-up-limit _ _ (start .pre .0 .0) (now (start .args .walks)) _ _ (start .pre .0 .2) walk (c .before .before .before .before .between-turns .ensures) (c .before .before .before .step-to .ensures) (c .before .more .given .1) in
+    let small = limits (asEntry (c .before .before .before .before .before .before .before .before .before .before .before .before .label-at .result)) (held (c .before .before .before .before .before .before .before .before .before .before .before .limited .ensures) (c .before .before .before .before .before .before .before .before .before .before .if2 .left)) in
+    (omega arith, omega arith)
 
 same-label-requires : tie.Need-same-label-requires
 same-label-requires c κs = search needs
@@ -75,7 +69,7 @@ returns-4 : tie.Need-returns-4
 returns-4 c = leads-barred _ _ _ _ _ _ _ (c .before .before .before .before .before .before .before .before .before .before .before .before .before .if1 .left) (c .before .before .before .before .before .before .before .before .before .before .before .label-at .ensures) (held (c .before .before .before .before .before .before .before .before .before .before .limited .ensures) (c .before .before .before .before .before .before .before .before .before .if2 .left)) (sym (c .before .before .before .before .before .before .before .before .turn-second .ensures) ∙ c .before .before .before .before .if3 .left ∙ c .before .before .before .before .before .before .before .turn-first .ensures) (c .before .before .before .between-turns .ensures) (c .before .before .step-to .ensures) (c .enum-told .given .1)
 
 returns-5 : tie.Need-returns-5
-returns-5 c = leads-stepped _ _ _ _ _ _ _ (c .before .before .before .before .before .before .before .before .before .before .before .before .before .before .before .before .before .if1 .left) (c .before .before .before .before .before .before .before .before .before .before .before .before .before .before .before .label-at .ensures) (held (c .before .before .before .before .before .before .before .before .before .before .before .before .before .before .limited .ensures) (c .before .before .before .before .before .before .before .before .before .before .before .before .before .if2 .left)) (sym (c .before .before .before .before .before .before .before .before .before .before .before .before .turn-second .ensures) ∙ c .before .before .before .before .before .before .before .before .if3 .left ∙ c .before .before .before .before .before .before .before .before .before .before .before .turn-first .ensures) (c .before .before .before .before .before .before .before .between-turns .ensures) (c .before .before .before .before .before .before .step-to .ensures) _ (c .before .before .before .before .more .given .1) (c .same-label .ensures)
+returns-5 c = leads-stepped _ _ _ _ _ _ _ (c .before .before .before .before .before .before .before .before .before .before .before .before .before .before .before .before .if1 .left) (c .before .before .before .before .before .before .before .before .before .before .before .before .before .before .label-at .ensures) (held (c .before .before .before .before .before .before .before .before .before .before .before .before .before .limited .ensures) (c .before .before .before .before .before .before .before .before .before .before .before .before .if2 .left)) (sym (c .before .before .before .before .before .before .before .before .before .before .before .turn-second .ensures) ∙ c .before .before .before .before .before .before .before .if3 .left ∙ c .before .before .before .before .before .before .before .before .before .before .turn-first .ensures) (c .before .before .before .before .before .before .between-turns .ensures) (c .before .before .before .before .before .step-to .ensures) _ (c .before .before .before .more .given .1) (rw (← c .before .one-turn-on .ensures) (c .same-label .ensures))
 
 pub back-leads-spec : {M : Type 1} → statement M
 back-leads-spec =
@@ -94,8 +88,7 @@ back-leads-spec =
     step-to-requires
     enum-told
     enum-known-more
-    add-t21
-    add-t22
+    one-turn-on-requires
     same-label-requires
     returns-4
     returns-5)

@@ -20,16 +20,14 @@ enum-told c = search needs
 enum-known-more : tie.Need-enum-known-more
 enum-known-more c = search needs
 
-add-t17 : tie.Need-add-t17
-add-t17 c =
-    let answer = c .before .before .before .before in
+one-turn-on-requires : tie.Need-one-turn-on-requires
+one-turn-on-requires c κs =
+    let answer = c .before .before .before in
     let start = answer .before .before .before .before .before .before .before in
     let walk = answer .before .before .before .before .before .shared-slice-known2 .given (start .args .turn .0) .fits in
-    let limit = step-limit _ _ (start .pre .0 .0) (now (start .args .walks)) _ _ _ _ _ (start .pre .0 .2) (start .pre .1 .0 .1) walk (answer .before .between-at .ensures) (answer .step-to .ensures) (c .before .before .more .given .1) in
-    omega (arith, limits (asEntry (start .args .label)) (start .pre .1 .0 .2))
-
-add-t18 : tie.Need-add-t18
-add-t18 c = omega (arith, limits (asEntry (c .before .before .before .before .before .before .before .before .before .before .before .before .args .label)) (c .before .before .before .before .before .before .before .before .before .before .before .before .pre .1 .0 .2))
+    let limit = step-limit _ _ (start .pre .0 .0) (now (start .args .walks)) _ _ _ _ _ (start .pre .0 .2) (start .pre .1 .0 .1) walk (answer .before .between-at .ensures) (answer .step-to .ensures) (c .before .more .given .1) in
+    let small = limits (asEntry (start .args .label)) (start .pre .1 .0 .2) in
+    (omega (arith, small), omega (arith, small))
 
 cast-label-at : tie.Need-cast-label-at
 cast-label-at c = search needs
@@ -44,7 +42,7 @@ returns : tie.Need-returns
 returns c = rw (← c .before .before .before .between-at .ensures, ← c .before .before .step-to .ensures, c .enum-told .given .1)
 
 returns-2 : tie.Need-returns-2
-returns-2 c = rw (← c .before .before .before .before .before .before .before .before .before .between-at .ensures, ← c .before .before .before .before .before .before .before .before .step-to .ensures, c .before .before .before .before .before .before .more .given .1, ← c .before .label-at .ensures) (c .goes-ahead .ensures)
+returns-2 c = rw (← c .before .before .before .before .before .before .before .before .between-at .ensures, ← c .before .before .before .before .before .before .before .step-to .ensures, c .before .before .before .before .before .more .given .1, ← c .before .before .before .one-turn-on .ensures, ← c .before .label-at .ensures) (c .goes-ahead .ensures)
 
 pub is-overtaken-spec : {M : Type 1} → statement M
 is-overtaken-spec =
@@ -54,8 +52,7 @@ is-overtaken-spec =
     step-to-requires
     enum-told
     enum-known-more
-    add-t17
-    add-t18
+    one-turn-on-requires
     cast-label-at
     label-at-requires
     goes-ahead-requires

@@ -18,16 +18,13 @@ enum-told c = search needs
 enum-known-more : tie.Need-enum-known-more
 enum-known-more c = search needs
 
-add-t17 : tie.Need-add-t17
-add-t17 c =
+one-turn-on-requires : tie.Need-one-turn-on-requires
+one-turn-on-requires c κs =
     let answer = c .before .before .before in
     let start = answer .before .before .before .before .before .before .before in
     let walk = answer .before .before .before .before .before .shared-slice-known2 .given (start .args .turn .0) .fits in
     let limit = step-limit _ _ (start .pre .0 .0) (now (start .args .walks)) _ _ _ _ _ (start .pre .0 .2) (start .pre .1 .0 .1) walk (answer .before .between-at .ensures) (answer .step-to .ensures) (c .before .more .given .1) in
-    omega (arith, start .pre .1 .0 .2)
-
-add-t18 : tie.Need-add-t18
-add-t18 c = search needs
+    (omega (arith, start .pre .1 .0 .2), start .pre .1 .0 .2 .1)
 
 cast-offer : tie.Need-cast-offer
 cast-offer c = search needs
@@ -52,8 +49,8 @@ same-length-3 c = search needs
 returns-2 : tie.Need-returns-2
 returns-2 c =
     let offering = c .before .before .before .before .before .before in
-    let answer = offering .before .before .before .before .before .before .before .before in
-    rw (← answer .before .between-at .ensures, ← answer .step-to .ensures, offering .before .before .before .before .before .before .more .given .1) (offering .offer .ensures)
+    let answer = offering .before .before .before .before .before .before .before .before .before in
+    rw (← answer .before .between-at .ensures, ← answer .step-to .ensures, offering .before .before .before .before .before .before .before .more .given .1, ← offering .before .before .before .before .before .one-turn-on .ensures) (offering .offer .ensures)
 
 pub pass-spec : {M : Type 1} → statement M
 pass-spec =
@@ -63,8 +60,7 @@ pass-spec =
     step-to-requires
     enum-told
     enum-known-more
-    add-t17
-    add-t18
+    one-turn-on-requires
     cast-offer
     offer-requires
     returns

@@ -1,7 +1,6 @@
 // One case: labels from a search, perhaps changed, a route asked with them, and the line about it.
 use super::saying::MARK;
 use super::saying::marks_kept;
-use super::saying::mixture_of_table;
 use super::saying::say_kept;
 use book::NodeNumber;
 use cases::Change;
@@ -51,6 +50,7 @@ fn say_answer(figures: RouteFigures, kept: bool, links: &[u16]) {
     say_kept(figures.number == 0, kept);
 }
 
+// The labels are lent for reading only; what a route may change is its buffer.
 fn ask_in(
     book: &[u8],
     asked: Asked,
@@ -62,8 +62,6 @@ fn ask_in(
     link_back: &[u16],
     links: &mut [u16],
 ) -> u64 {
-    let turns_before = mixture_of_table(turn_cost, turn_links, turn_back);
-    let links_before = mixture_of_table(link_cost, link_links, link_back);
     let figures = route_given_back(route(
         book,
         NodeNumber(asked.origin),
@@ -76,9 +74,7 @@ fn ask_in(
         link_back,
         links,
     ));
-    let kept = (turns_before == mixture_of_table(turn_cost, turn_links, turn_back))
-        & (links_before == mixture_of_table(link_cost, link_links, link_back))
-        & marks_kept(links, figures.links as usize);
+    let kept = marks_kept(links, figures.links as usize);
     if asked.aloud {
         say_answer(figures, kept, links);
     }

@@ -16,11 +16,8 @@ use Rattle.walk.specs.Labels.{Table}
 use Rattle.walk.proofs.theory.Laws.{clash}
 use Rattle.search.specs.Tests.{nodeTest, lengthTest}
 use Rattle.search.specs.steps.Tables.{Sized}
-use Rattle.search.proofs.Tested.{node-passed, length-passed}
+use Rattle.search.proofs.Tested.{own-counts, node-passed, length-passed}
 use Rattle.edit.specs.Edit.{turnTest, editTests}
-
-own-counts : {own counts : Counts} → Good own ≡ Good counts → own ≡ counts
-own-counts e = cc
 
 pub turn-passed : (checked : Checked) (turn walk : ℕ) (counts : Counts) → turnTest checked turn walk ≡ Good counts → (checked ≡ Good counts) × (turn < counts .turns) × (secondsGood walk ≡ true)
 unfolding turnTest

@@ -19,7 +19,8 @@ use Rattle.search.specs.Search.{searchTests}
 use Rattle.search.specs.Route.{routeTests}
 use Rattle.search.specs.steps.Tables.{Sized}
 
-own-counts : {own counts : Counts} → Good own ≡ Good counts → own ≡ counts
+-- good with these counts and good with those
+pub own-counts : {own counts : Counts} → Good own ≡ Good counts → own ≡ counts
 own-counts e = cc
 
 pub node-passed : (checked : Checked) (node : ℕ) (counts : Counts) → nodeTest checked node ≡ Good counts → (checked ≡ Good counts) × (node < counts .nodes)

@@ -8,6 +8,7 @@ pub mod Passes
 pub mod Rules
 pub mod Halving
 pub mod GoodBook
+pub mod LargestBook
 pub mod NumberWritten
 pub mod WalkWritten
 pub mod BookA

@@ -111,7 +111,7 @@ closing-refused claimed h = row-refused (closing claimed) (closing-right claimed
 reopening-refused : (claimed : Outcome) → wrong (reopening claimed) ≡ true → RightAlone (reopening claimed)
 reopening-refused claimed h = row-refused (reopening claimed) (reopening-right claimed) h
 
--- NONE OF THE WRONG OUTCOMES is allowed, and the right one is
+-- none of the wrong outcomes is allowed, and the right one is
 pub edits-refused : (any-turns any-links : ℕ) → All RightAlone (wrongEdits any-turns any-links)
 unfolding withNumber
 edits-refused any-turns any-links =

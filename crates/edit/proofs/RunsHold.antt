@@ -80,7 +80,7 @@ module _ (r : ℕ) (counts : Counts) (origin : r < counts .nodes) where
       let same : own ≡ counts = cc in
       labels-one last counts checked r t′ l′ t l (subst (LabelsOf last r t′ l′) same labels′) labels
 
-  -- A RUN OF EDITS from a good book and its true labels, refused ones among them
+  -- A run of edits from a good book and its true labels, refused ones among them
   pub run-holds : {book : List ℕ} {turns links : Table} {answers : List Edited} {changes : List Change} {last : List ℕ} {turns-last links-last : Table}
       → checkOf book ≡ Good counts → TrueLabels (viewOf book counts) r turns links → Run r book turns links answers changes last turns-last links-last
       → RunHolds r book counts answers changes last turns-last links-last

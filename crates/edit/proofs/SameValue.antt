@@ -127,7 +127,7 @@ stored-at book counts turn checked within small =
     let size = good-book book counts checked .size in
     ap (withNumber book at) (part-number book (turnsAt counts) (pairsAt counts) (joinBytes * turn + 4) (omega arith)) ∙ written-back book at small (omega arith)
 
--- AN EDIT TO THE VALUE ALREADY THERE is done with 0 and 0, and labels and book are as they were
+-- an edit to the value already there is done with 0 and 0, and labels and book are as they were
 pub same-value : (book : List ℕ) (r turn walk : ℕ) (turns links : Table) (answer : Edited) (book-after : List ℕ) (turns-after links-after : Table) (counts : Counts) → editTests book r turn walk turns links ≡ Good counts → TrueLabels (viewOf book counts) r turns links
     → turnWalk (turnTable book counts) turn ≡ walk → Edit book r turn walk turns links answer book-after turns-after links-after
     → SameValue book turns links answer book-after turns-after links-after

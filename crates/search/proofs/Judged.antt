@@ -314,7 +314,7 @@ module _ (U : View) (good : GoodView U) (bounds : Limited U) (few : U .turns < s
         by (inl blank) = inl blank
         by (inr (k, b, c, same)) = inr (link-source l c (entryAt links l) same)
 
-  -- THE THEOREM: all tests hold exactly where the labels are true
+  -- the theorem: all tests hold exactly where the labels are true
   module _ (turns-sized : Sized (U .turns) turns) (links-sized : Sized (U .links) links) where
     pub stands-true : allStand U r turns links ≡ true → TrueLabels U r turns links
     stands-true h =

@@ -1,78 +1,21 @@
 -- Input longer than the largest book is answered by its header alone, so what a reader with room for more than that leaves off changes nothing.
 use Prim.Native.Nat.{ℕ, _+_, _<_}
-use mathlib.Core.Path.{_≡_, refl, sym, ap, _∙_, subst}
+use mathlib.Core.Path.{_≡_, sym, _∙_, subst}
 use mathlib.Core.List.{List}
-use mathlib.Core.Bool.{Bool, true, false}
 use native.Mathlib.Omega.{arith}
 use native.Mathlib.Decide.{decLt}
-use lib.Dec.{eqb}
 use lib.ListN.{length, getD, take, length-drop}
 use lib.Seq.{length-take-le, take-all, getD-take, getD-drop}
-use borrow.Author.Tests.{le-leb, ne-eqb}
 use Rattle.book.specs.declared.Refusal.{Refusal}
 use Rattle.book.specs.declared.Checked.the-variants.{Refused}
-use Rattle.book.specs.Number.{numberAt}
-use Rattle.book.specs.Header.{headerBytes, markGood, versionGood, countsOf, countsGood}
-use Rattle.book.specs.Tables.{bookEnd}
-use Rattle.book.specs.Check.{refusal, unless, tablesIn, checkOf}
-use Rattle.book.proofs.Limits.{limits}
+use Rattle.book.specs.Header.{headerBytes}
+use Rattle.book.specs.Check.{checkOf}
+use Rattle.book.proofs.LargestBook.{largestBook, long-same}
 use Rattle.sheet.specs.Sheet.{beforeBook, originOf, destinationOf, bookOf, Planned, Says, short, asked}
 use Rattle.sheet.proofs.Determined.{plan-one}
 use Rattle.sheet.proofs.Plans.{refusalFields, book-refused}
 
--- the largest book has 53,777 bytes
-abbrev pub largestBook : ℕ
-largestBook = 53777
-
--- tests 2, 3 and 4 of a header, and then 5
-headerAnswer : Bool → Bool → Bool → Refusal
-headerAnswer false version counts = refusal 2 0
-headerAnswer true false counts = refusal 3 0
-headerAnswer true true false = refusal 4 0
-headerAnswer true true true = refusal 5 0
-
-answered : List ℕ → Refusal
-answered book = headerAnswer (markGood book) (versionGood book) (countsGood (countsOf book))
-
-long-refused : (book : List ℕ) → largestBook < length book → checkOf book ≡ Refused (answered book)
-unfolding checkOf answered headerAnswer
-long-refused book long = rw (le-leb headerBytes (length book) (omega arith)) (by (markGood book) (versionGood book) (countsGood (countsOf book)) refl)
-  where
-    by : (mark version counts : Bool) → countsGood (countsOf book) ≡ counts
-        → unless mark (refusal 2 0) (unless version (refusal 3 0) (unless counts (refusal 4 0) (unless (eqb (length book) (bookEnd (countsOf book))) (refusal 5 0) (tablesIn book (countsOf book))))) ≡ Refused (headerAnswer mark version counts)
-    by false version counts h = refl
-    by true false counts h = refl
-    by true true false h = refl
-    by true true true h =
-        let within = limits (countsOf book) h in
-        rw (ne-eqb (length book) (bookEnd (countsOf book)) (λ e. omega (arith, within .lines, within .links, within .turns, within .pairs)))
-
--- books with the same header
-module _ (book other : List ℕ) (same : (k : ℕ) → k < headerBytes → getD book k 0 ≡ getD other k 0) where
-  number-same : (at : ℕ) → at + 1 < headerBytes → numberAt book at ≡ numberAt other at
-  unfolding numberAt
-  number-same at h = rw (same at (omega arith), same (at + 1) h)
-
-  answered-same : answered book ≡ answered other
-  unfolding answered markGood versionGood countsOf
-  answered-same =
-      rw (
-        same 0 (omega arith),
-        same 1 (omega arith),
-        same 2 (omega arith),
-        number-same 3 (omega arith),
-        number-same 5 (omega arith),
-        number-same 7 (omega arith),
-        number-same 9 (omega arith),
-        number-same 11 (omega arith),
-        number-same 13 (omega arith),
-        number-same 15 (omega arith),
-      )
-
-  pub long-same : largestBook < length book → largestBook < length other → checkOf book ≡ checkOf other
-  long-same long long-other = long-refused book long ∙ ap Refused answered-same ∙ sym (long-refused other long-other)
-
--- THE INPUT IS ANSWERED BY ITS FRONT, where that is longer than the largest book with the two nodes before it
+-- the input is answered by its front, where that is longer than the largest book with the two nodes before it
 module _ (room : ℕ) (enough : largestBook + beforeBook < room) (input : List ℕ) where
   abbrev front : List ℕ
   front = take room input

@@ -98,7 +98,7 @@ module _ (U other : View) (good : GoodView U) (good′ : GoodView other) (few : 
   few′ : other .turns < startBack
   few′ = rw (agree .turns) at few
 
-  -- AGREEING VIEWS have the same true entries
+  -- agreeing views have the same true entries
   pub turn-agrees : (t : ℕ) (e : Entry) → TrueTurn U r t e → TrueTurn other r t e
   turn-agrees t e h =
       turn-outside other good′ few′ r t e

@@ -70,7 +70,7 @@ module _ (U : View) (good : GoodView U) (r : ℕ) where
   turns-from-last : (links : List ℕ) → turnsBack U (reverse links) ≡ reverse (turnsOf U links)
   turns-from-last links = sym (reverse-reverse (turnsBack U (reverse links))) ∙ ap reverse (sym (turns-reverse U (reverse links)) ∙ ap (turnsOf U) (reverse-reverse links))
 
-  -- NO CHOSEN WALK USES A TURN TWICE; its turns are read from the last
+  -- no chosen walk uses a turn twice; its turns are read from the last
   pub turn-none-twice : (t : ℕ) (links : List ℕ) → Chosen U (TurnWalk U r t) links → NoneTwice (reverse (turnsOf U links))
   turn-none-twice t links c =
       let (k, b, inside) = chosen-inward U r _ _ _ (turn-matches U good r t) links c in

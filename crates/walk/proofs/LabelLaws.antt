@@ -103,7 +103,7 @@ module _ (U : View) (good : GoodView U) (few : U .turns < startBack) (r : ℕ) w
   pub link-outside : (l : ℕ) (e : Entry) → net-walks.TrueLink Key (net U r) l (reading e) → TrueLink U r l e
   link-outside l e h = subst (TrueLink U r l) (figures-reading e) (true-outward U r _ _ _ (link-matches U good r l) (reading e) h)
 
-  -- THE THEOREM: a table is local exactly when every entry is the true one
+  -- the theorem: a table is local exactly when every entry is the true one
   pub local-true : (table : ℕ → Entry) → Local Key (net U r) (λ t. reading (table t)) ↔ ((t : ℕ) → t < U .turns → TrueTurn U r t (table t))
   local-true table =
       let both-ways = certificate Key (net U r) (laws U good r) (λ t. reading (table t)) in
@@ -131,7 +131,7 @@ route-one U good r s links other h g =
     let (same, _, _) = chosen-one Key (net U r) (laws U good r) (node-regular Key (net U r) (laws U good r) r s) c c′ in
     sym (reverse-reverse links) ∙ ap reverse same ∙ reverse-reverse other
 
--- A DESTINATION BY ONE SWEEP over true link entries: the least of those that enter it stands for its route, and there is none where it has no walk
+-- A destination by one sweep over true link entries: the least of those that enter it stands for its route, and there is none where it has no walk
 module _ (U : View) (good : GoodView U) (few : U .turns < startBack) (r s : ℕ) (links : ℕ → Entry) (links-true : (l : ℕ) → l < U .links → TrueLink U r l (links l)) where
   pub data Found : Reached Key → Type 0 where
     route-found : {k : Key} {b : Back} (walk : List ℕ) → Route U r s walk → keyOf U walk ≡ k → lastOr startBack walk ≡ backNumber b → Found (reached k b)

@@ -123,7 +123,7 @@ module _ (K : Type 0) (N : Net K) (L : Laws K N) (less : K → K → Bool) (D : 
   rounds-good zero t h = λ q k b w g. absurd (omega (arith, two-or-more K N L w))
   rounds-good (suc i) t h = good-step (rounds i) i (rounds-good i) t h
 
-  -- EVERY NET HAS A TRUE TABLE, and it is computed
+  -- every net has a true table, and it is computed
   pub exists : TrueTurns K N (rounds (suc (N .turns)))
   unfolding rounds
   exists = last-sweep (rounds (N .turns)) (rounds-walked (N .turns)) (rounds-good (N .turns))

@@ -16,7 +16,7 @@ use Rattle.walk.specs.steps.ViewNet.{net, key, isOpen, mayFollow, figures, isNo
 use Rattle.walk.proofs.theory.Laws.{clash}
 use Rattle.walk.proofs.GoodView.{GoodView}
 use Rattle.walk.proofs.Growth.{and-true}
-use Rattle.walk.proofs.Literal.{holds, shown}
+use Rattle.walk.proofs.NetWalks.{holds, shown}
 use Rattle.walk.proofs.CaseTests.{entry-same}
 use Rattle.walk.proofs.ChosenLaws.{Limited, turn-bounded}
 use Rattle.walk.proofs.LabelLaws.{reading-none, local-true, local-links-true}

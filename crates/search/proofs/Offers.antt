@@ -26,7 +26,7 @@ use Rattle.walk.specs.steps.Pairs.{listedAt, stepTo, secondsMore}
 use Rattle.walk.specs.steps.ViewNet.{isOpen}
 use Rattle.walk.proofs.GoodView.{link-limit}
 use Rattle.walk.proofs.LimitedView.{extra-limit as any-extra}
-use Rattle.walk.proofs.OneMore.{stepped, open-step}
+use Rattle.walk.proofs.NextLink.{stepped, open-step}
 use Rattle.walk.proofs.theory.Laws.{clash}
 use Rattle.search.specs.steps.Tables.{Sized}
 use Rattle.search.specs.steps.Passing.{passedBy, passedTo, offeredIf}

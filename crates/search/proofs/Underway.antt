@@ -23,7 +23,7 @@ use Rattle.walk.proofs.theory.SettlingStep.{TestedAhead, settle-step}
 use Rattle.walk.proofs.GoodView.{GoodView}
 use Rattle.walk.proofs.KeyLaws.{laws}
 use Rattle.walk.proofs.Growth.{and-true, same-test}
-use Rattle.walk.proofs.Literal.{holds, shown}
+use Rattle.walk.proofs.NetWalks.{holds, shown}
 use Rattle.walk.proofs.ChosenLaws.{Limited}
 use Rattle.walk.proofs.LabelLaws.{reading-figures, reading-none, turn-outside}
 use Rattle.search.specs.steps.Tables.{goesAhead, tableUpTo, Sized}

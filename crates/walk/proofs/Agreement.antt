@@ -11,7 +11,7 @@ use Rattle.walk.specs.Labels.{Key, Less, keyOf, Better, Chosen, Route, E
 use Rattle.walk.specs.steps.Net.{Walks, Back}
 use Rattle.walk.specs.steps.ViewNet.{net, key, isOpen, mayFollow}
 use Rattle.walk.proofs.theory.Walks.{below, link-head}
-use Rattle.walk.proofs.theory.Same.{Within, WithinNodes, node-in, turn-same, link-same}
+use Rattle.walk.proofs.theory.SameNets.{Within, WithinNodes, node-in, turn-same, link-same}
 use Rattle.walk.proofs.GoodView.{GoodView}
 use Rattle.walk.proofs.KeyLaws.{laws}
 use Rattle.walk.proofs.TrueEntries.{Matches, node-matches}

@@ -23,7 +23,7 @@ use Rattle.walk.proofs.Lists.{drop-last}
 use Rattle.walk.proofs.Backwards.{turns-reverse}
 use Rattle.walk.proofs.GoodView.{GoodView}
 use Rattle.walk.proofs.KeyLaws.{laws}
-use Rattle.walk.proofs.Literal.{holds, built}
+use Rattle.walk.proofs.NetWalks.{holds, built}
 use Rattle.walk.proofs.TrueEntries.{Matches, chosen-inward, chosen-outward, turn-matches, link-matches, node-matches}
 use Rattle.walk.proofs.Existence.{turnInside, linkInside, turns-inside, links-inside}
 

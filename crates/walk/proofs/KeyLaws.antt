@@ -13,7 +13,7 @@ use Rattle.walk.specs.Walks.{between, allowed}
 use Rattle.walk.specs.steps.ViewNet.{net, isOpen}
 use Rattle.walk.proofs.theory.Laws.{Laws, Compared, lt-tri}
 use Rattle.walk.proofs.GoodView.{GoodView}
-use Rattle.walk.proofs.Literal.{holds}
+use Rattle.walk.proofs.NetWalks.{holds}
 use Rattle.walk.proofs.TrueEntries.{same-key}
 
 pub less-irrefl : (a : Key) → Less a a → ⊥

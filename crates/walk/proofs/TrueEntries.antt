@@ -19,7 +19,7 @@ use Rattle.walk.proofs.Lists.{last-snoc, drop-last}
 use Rattle.walk.proofs.Backwards.{turns-reverse, permitted-reverse, cost-reverse}
 use Rattle.walk.proofs.Growth.{and-true, permitted-one, cost-one}
 use Rattle.walk.proofs.GoodView.{GoodView, turn-of, turn-links}
-use Rattle.walk.proofs.Literal.{holds, shown, BackIs, built, walked}
+use Rattle.walk.proofs.NetWalks.{holds, shown, BackIs, built, walked}
 
 pub same-key : (a b : Key) → a .cost ≡ b .cost → a .links ≡ b .links → a ≡ b
 same-key a b c l = λ i. record { cost = c i; links = l i }

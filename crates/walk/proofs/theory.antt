@@ -8,11 +8,11 @@ pub mod Order
 pub mod Pigeonhole
 pub mod Reading
 pub mod Rounds
-pub mod Same
+pub mod SameNets
 pub mod Settling
 pub mod SettlingStep
 pub mod Stage
-pub mod Stages
+pub mod ThreeStages
 pub mod Sweep
 pub mod Twice
 pub mod Walks

@@ -7,7 +7,7 @@ use Rattle.walk.proofs.theory.Laws.{Laws}
 use Rattle.walk.proofs.theory.Walks.{below, link-head}
 use Rattle.walk.proofs.theory.Least.{chosen-equal}
 use Rattle.walk.proofs.theory.Stage.{stage-back}
-use Rattle.walk.proofs.theory.Stages.{turn-staged, link-staged}
+use Rattle.walk.proofs.theory.ThreeStages.{turn-staged, link-staged}
 
 -- the number of links falls by one
 pub back-size : (K : Type 0) (N : Net K) → Laws K N → {t p : ℕ} {k k′ : K} → k ≡ N .extend p t k′ → N .size k ≡ suc (N .size k′)

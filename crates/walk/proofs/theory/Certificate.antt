@@ -12,7 +12,7 @@ use Rattle.walk.proofs.theory.Order.{beats-trans, beats-extend}
 use Rattle.walk.proofs.theory.Walks.{turn-regular, link-regular}
 use Rattle.walk.proofs.theory.Least.{least-same, least-iff, least-cand, Beaten, least-beats, least-true, true-unique}
 use Rattle.walk.proofs.theory.Stage.{Stepped, at-once, after, Offered, Backed, stage-joins, stage-cover, stage-certificate}
-use Rattle.walk.proofs.theory.Stages.{turn-stage, turn-staged, link-staged, turn-cands, link-cands}
+use Rattle.walk.proofs.theory.ThreeStages.{turn-stage, turn-staged, link-staged, turn-cands, link-cands}
 
 module _ (K : Type 0) (N : Net K) (L : Laws K N) where
   -- ---- a table that satisfies the local equations is true

@@ -9,7 +9,7 @@ use Rattle.walk.proofs.theory.Laws.{Laws}
 use Rattle.walk.proofs.theory.Walks.{node-regular}
 use Rattle.walk.proofs.theory.Least.{least-iff, chosen-equal, true-unique}
 use Rattle.walk.proofs.theory.Stage.{stage-certificate, stage-back}
-use Rattle.walk.proofs.theory.Stages.{node-staged, node-cands}
+use Rattle.walk.proofs.theory.ThreeStages.{node-staged, node-cands}
 
 module _ (K : Type 0) (N : Net K) (L : Laws K N) where
   pub route-unique : {r s : ℕ} {e e′ : Entry K} → TrueRoute K N r s e → TrueRoute K N r s e′ → e ≡ e′

@@ -14,7 +14,7 @@ use Rattle.walk.proofs.theory.Order.{not-ahead-self}
 use Rattle.walk.proofs.theory.Least.{least-same, least-unique}
 use Rattle.walk.proofs.theory.Offer.{offer-least}
 use Rattle.walk.proofs.theory.Stage.{Stage, Offered, begun, handed}
-use Rattle.walk.proofs.theory.Stages.{turn-stage, link-stage, node-stage, turn-cands, link-cands, node-cands}
+use Rattle.walk.proofs.theory.ThreeStages.{turn-stage, link-stage, node-stage, turn-cands, link-cands, node-cands}
 use Rattle.walk.proofs.theory.Certificate.{certificate, link-true-least}
 use Rattle.walk.proofs.theory.Destination.{route-certificate}
 

@@ -2,7 +2,7 @@
 use borrow.Author.Needs.{needs}
 use mathlib.Core.Path.{sym, _∙_}
 use native.Mathlib.Omega.{arith}
-use Rattle.walk.proofs.Along.{no-links, no-start}
+use Rattle.walk.proofs.GivenWalks.{no-links, no-start}
 use Rattle.walk.proofs.given.cost_along.Statement.{statement}
 use Rattle.walk.proofs.given.cost_along.Tie as tie
 

@@ -8,7 +8,7 @@ use native.Mathlib.Omega.{arith}
 use Rattle.book.specs.Entries.{linkFrom}
 use Rattle.book.specs.Tables.{linkTable}
 use Rattle.walk.specs.View.{viewWith}
-use Rattle.walk.proofs.Along.{Along, set-out, arrived, barred-on, goes-on}
+use Rattle.walk.proofs.GivenWalks.{Along, set-out, arrived, barred-on, goes-on}
 use Rattle.walk.proofs.Filling.{up-to-length}
 use Rattle.walk.proofs.given.cost_onward.Statement.{statement}
 use Rattle.walk.proofs.given.cost_onward.Tie as tie

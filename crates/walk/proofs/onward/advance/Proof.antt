@@ -1,7 +1,7 @@
 -- The step to the turn that the link makes says whether the link may come, and what it adds.
 use borrow.Author.Needs.{needs}
 use denote.Ref.{now}
-use Rattle.walk.proofs.OneMore.{missing-stops, barred-stops, seconds-onward}
+use Rattle.walk.proofs.NextLink.{missing-stops, barred-stops, seconds-onward}
 use Rattle.walk.proofs.onward.advance.Statement.{statement}
 use Rattle.walk.proofs.onward.advance.Tie as tie
 

@@ -7,6 +7,8 @@ mod arriving;
 mod ends;
 mod figures;
 mod judging;
+mod judging_links;
+mod judging_turns;
 mod labels;
 mod offered;
 mod passing;

@@ -9,7 +9,6 @@ ghost use mathlib.Core.Path.{_≡_};
 ghost use Prim.Native.Nat.{_<_, _≤_};
 ghost use lib.ListN.{length};
 ghost use Rattle.book.specs.Header.{mostTurns};
-ghost use Rattle.search.specs.steps.Tables.{asEntry, ownLabel};
 ghost use Rattle.search.specs.steps.Picking.{isCandidate, Picks};
 ghost use Rattle.search.specs.steps.Candidates.{Gathered, comesBefore, earlier, AllBelow, FirstAmong};
 

@@ -7,7 +7,7 @@ use book::Counts;
 use book::NodeNumber;
 use book::TurnNumber;
 ghost use mathlib.Core.Path.{_≡_};
-ghost use Prim.Native.Nat.{ℕ, _≤_, _<_};
+ghost use Prim.Native.Nat.{ℕ, _<_};
 ghost use lib.ListN.{length, getD, set, replicate};
 ghost use Rattle.book.specs.declared.Checked.the-variants.{Good};
 ghost use Rattle.book.specs.Check.{checkOf};

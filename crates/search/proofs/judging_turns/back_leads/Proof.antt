@@ -9,8 +9,8 @@ use Rattle.search.specs.steps.Judging.{backLeads}
 use Rattle.search.proofs.Offers.{looked-up-limit}
 use Rattle.search.proofs.Overtaking.{limits, leads-barred, leads-stepped}
 use borrow.Author.Needs.{needs}
-use Rattle.search.proofs.judging.back_leads.Statement.{statement}
-use Rattle.search.proofs.judging.back_leads.Tie as tie
+use Rattle.search.proofs.judging_turns.back_leads.Statement.{statement}
+use Rattle.search.proofs.judging_turns.back_leads.Tie as tie
 
 cast-if1 : tie.Need-cast-if1
 cast-if1 c = search needs

@@ -2,8 +2,8 @@
 use borrow.Author.Tests.{lt-ltb, le-ltb}
 use Rattle.search.specs.steps.Judging.{endLeads}
 use borrow.Author.Needs.{needs}
-use Rattle.search.proofs.judging.end_leads.Statement.{statement}
-use Rattle.search.proofs.judging.end_leads.Tie as tie
+use Rattle.search.proofs.judging_links.end_leads.Statement.{statement}
+use Rattle.search.proofs.judging_links.end_leads.Tie as tie
 
 cast-if1 : tie.Need-cast-if1
 cast-if1 c = search needs

@@ -2,8 +2,8 @@
 use mathlib.Core.Path.{sym, _∙_}
 use Rattle.search.specs.steps.Judging.{linkStands}
 use borrow.Author.Needs.{needs}
-use Rattle.search.proofs.judging.link_stands.Statement.{statement}
-use Rattle.search.proofs.judging.link_stands.Tie as tie
+use Rattle.search.proofs.judging_links.link_stands.Statement.{statement}
+use Rattle.search.proofs.judging_links.link_stands.Tie as tie
 
 cast-label-at : tie.Need-cast-label-at
 cast-label-at c = search needs

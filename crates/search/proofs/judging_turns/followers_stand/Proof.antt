@@ -6,8 +6,8 @@ use Rattle.walk.specs.Labels.{three}
 use Rattle.search.proofs.BothRuns.{followers-listed, pairs-listed}
 use Rattle.search.proofs.NoneOvertaken.{NoneOvertaken, none-yet, none-next, none-at-all, one-overtaken}
 use borrow.Author.Needs.{needs}
-use Rattle.search.proofs.judging.followers_stand.Statement.{statement}
-use Rattle.search.proofs.judging.followers_stand.Tie as tie
+use Rattle.search.proofs.judging_turns.followers_stand.Statement.{statement}
+use Rattle.search.proofs.judging_turns.followers_stand.Tie as tie
 
 abbrev Inv-turns : tie.InvT-turns
 Inv-turns book counts walks before label cost links back end to at₀ turn₀ at turn = NoneOvertaken book counts walks (before .0) (label .cost) (label .links) (three cost links back) turn₀ end at₀ to at turn

@@ -7,8 +7,8 @@ use Rattle.walk.specs.View.{viewWith}
 use Rattle.walk.specs.Labels.{three}
 use Rattle.search.specs.steps.Judging.{turnStands}
 use Rattle.search.proofs.EveryBelow.{Passed, none-passed, one-more-passed, all-passed, one-failed}
-use Rattle.search.proofs.judging.turns_stand.Statement.{statement}
-use Rattle.search.proofs.judging.turns_stand.Tie as tie
+use Rattle.search.proofs.judging_turns.turns_stand.Statement.{statement}
+use Rattle.search.proofs.judging_turns.turns_stand.Tie as tie
 
 abbrev Inv-turns : tie.InvT-turns
 Inv-turns book counts walks origin turn-cost turn-links turn-back link-cost link-links link-back turns turn₀ turn =

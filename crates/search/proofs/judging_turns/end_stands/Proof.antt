@@ -3,8 +3,8 @@ use Prim.Native.Nat.{_<_}
 use native.Mathlib.Omega.{arith}
 use Rattle.book.proofs.GoodBook.{good-book}
 use borrow.Author.Needs.{needs}
-use Rattle.search.proofs.judging.end_stands.Statement.{statement}
-use Rattle.search.proofs.judging.end_stands.Tie as tie
+use Rattle.search.proofs.judging_turns.end_stands.Statement.{statement}
+use Rattle.search.proofs.judging_turns.end_stands.Tie as tie
 
 turn-second-requires : tie.Need-turn-second-requires
 turn-second-requires c κs = search needs

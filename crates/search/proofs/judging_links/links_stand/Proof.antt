@@ -7,8 +7,8 @@ use Rattle.walk.specs.Labels.{three}
 use Rattle.search.specs.steps.Judging.{linkStands}
 use Rattle.search.proofs.EveryBelow.{Passed, none-passed, one-more-passed, all-passed, one-failed}
 use borrow.Author.Needs.{needs}
-use Rattle.search.proofs.judging.links_stand.Statement.{statement}
-use Rattle.search.proofs.judging.links_stand.Tie as tie
+use Rattle.search.proofs.judging_links.links_stand.Statement.{statement}
+use Rattle.search.proofs.judging_links.links_stand.Tie as tie
 
 abbrev Inv-links : tie.InvT-links
 Inv-links book counts origin turn-cost turn-links cost links back count link₀ link = Passed (linkStands (viewOf book counts) (origin .0) turn-cost turn-links (three cost links back)) (counts .links) link

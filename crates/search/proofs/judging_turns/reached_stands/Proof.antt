@@ -1,8 +1,8 @@
 -- The four tests are those of the definition.
 use Rattle.search.proofs.Overtaking.{reached-by}
 use borrow.Author.Needs.{needs}
-use Rattle.search.proofs.judging.reached_stands.Statement.{statement}
-use Rattle.search.proofs.judging.reached_stands.Tie as tie
+use Rattle.search.proofs.judging_turns.reached_stands.Statement.{statement}
+use Rattle.search.proofs.judging_turns.reached_stands.Tie as tie
 
 same-label-requires : tie.Need-same-label-requires
 same-label-requires c κs = search needs

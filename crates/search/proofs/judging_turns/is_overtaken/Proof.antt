@@ -5,8 +5,8 @@ use Rattle.search.specs.steps.Tables.{asEntry}
 use Rattle.search.proofs.Offers.{step-limit}
 use Rattle.search.proofs.Overtaking.{limits}
 use borrow.Author.Needs.{needs}
-use Rattle.search.proofs.judging.is_overtaken.Statement.{statement}
-use Rattle.search.proofs.judging.is_overtaken.Tie as tie
+use Rattle.search.proofs.judging_turns.is_overtaken.Statement.{statement}
+use Rattle.search.proofs.judging_turns.is_overtaken.Tie as tie
 
 between-at-requires : tie.Need-between-at-requires
 between-at-requires c κs = search needs

@@ -3,8 +3,8 @@ use mathlib.Core.Path.{sym, _∙_}
 use Rattle.book.proofs.Answers.{held, failed}
 use Rattle.search.specs.steps.Judging.{turnStands}
 use borrow.Author.Needs.{needs}
-use Rattle.search.proofs.judging.turn_stands.Statement.{statement}
-use Rattle.search.proofs.judging.turn_stands.Tie as tie
+use Rattle.search.proofs.judging_turns.turn_stands.Statement.{statement}
+use Rattle.search.proofs.judging_turns.turn_stands.Tie as tie
 
 cast-label-at : tie.Need-cast-label-at
 cast-label-at c = search needs

@@ -34,10 +34,10 @@ headerAnswer true false counts = refusal 3 0
 headerAnswer true true false = refusal 4 0
 headerAnswer true true true = refusal 5 0
 
-answered : List ℕ → Refusal
+pub answered : List ℕ → Refusal
 answered book = headerAnswer (markGood book) (versionGood book) (countsGood (countsOf book))
 
-long-refused : (book : List ℕ) → largestBook < length book → checkOf book ≡ Refused (answered book)
+pub long-refused : (book : List ℕ) → largestBook < length book → checkOf book ≡ Refused (answered book)
 unfolding checkOf answered headerAnswer
 long-refused book long = rw (le-leb headerBytes (length book) (omega arith)) (by (markGood book) (versionGood book) (countsGood (countsOf book)) refl)
   where

@@ -13,3 +13,5 @@ pub mod NumberWritten
 pub mod WalkWritten
 pub mod BookA
 pub mod Determined
+pub mod ByHand
+pub mod FieldRead

@@ -1,4 +1,5 @@
 // The day book: whether it is good, what its fields say, and the write of one turn's walk.
+mod carried;
 mod checks;
 mod entries;
 mod fields;
@@ -7,6 +8,9 @@ mod numbers;
 mod runs;
 mod tables;
 
+pub use carried::bytes_in;
+pub use carried::carry;
+pub use carried::counts_in;
 pub use checks::check;
 pub use checks::given_back;
 pub use entries::BARRED;
@@ -55,4 +59,10 @@ pub struct Refusal {
 pub enum Checked {
     Good(Counts),
     Refused(Refusal),
+}
+
+// A good book and the counts that its check found.
+pub struct CheckedBook<'a> {
+    bytes: &'a [u8],
+    counts: Counts,
 }

@@ -22,3 +22,4 @@ pub mod Tested
 pub mod RouteLaws
 pub mod Determined
 pub mod NoRouteA
+pub mod Carrying

@@ -11,10 +11,14 @@ use book::Checked;
 use book::Counts;
 use book::NodeNumber;
 use book::Refusal;
+use walk::bytes_in;
+use walk::carry;
 use walk::check;
+use walk::counts_in;
 ghost use mathlib.Core.Path.{_≡_};
+ghost use Rattle.book.specs.declared.Checked.the-variants.{Good};
 ghost use Rattle.walk.specs.View.{viewOf};
-ghost use Rattle.search.specs.Route.{routeGivenBack, RouteOnward, Routing};
+ghost use Rattle.search.specs.Route.{routeGivenBack, routeTests, RouteOnward, Routing};
 ghost use Rattle.walk.specs.Labels.{three};
 ghost use Rattle.search.specs.steps.Routes.{RouteFrom};
 
@@ -54,6 +58,85 @@ fn route_onward(
     }
 }
 
+// Test 13, and on where it passes.
+fn route_judged(
+    book: &[u8],
+    counts: Counts,
+    origin: NodeNumber,
+    destination: NodeNumber,
+    turn_cost: &[u32],
+    turn_links: &[u16],
+    turn_back: &[u16],
+    link_cost: &[u32],
+    link_links: &[u16],
+    link_back: &[u16],
+    route: &mut [u16],
+) -> Routed
+    requires { ⌜ routeTests (now book) (origin .0) (destination .0) (three (now «turn_cost») (now «turn_links») (now «turn_back»)) (three (now «link_cost») (now «link_links») (now «link_back»)) ≡ Good counts ⌝ }
+    ensures { λ r. ⌜ Routing (now (book .entry)) (origin .0) (destination .0) (three (now («turn_cost» .entry)) (now («turn_links» .entry)) (now («turn_back» .entry))) (three (now («link_cost» .entry)) (now («link_links» .entry)) (now («link_back» .entry))) (now (route .entry)) r (now (route .exit)) ⌝ }
+{
+    if !labels_true(
+        book,
+        counts,
+        origin,
+        turn_cost,
+        turn_links,
+        turn_back,
+        link_cost,
+        link_links,
+        link_back,
+    ) {
+        return Routed::Refused(Refusal {
+            number: 13,
+            place: 0,
+        });
+    }
+    route_onward(
+        book,
+        counts,
+        origin,
+        destination,
+        turn_back,
+        link_cost,
+        link_links,
+        link_back,
+        route,
+    )
+}
+
+// The same, read out of the book that is carried with its counts.
+fn route_carried(
+    book: &[u8],
+    counts: Counts,
+    origin: NodeNumber,
+    destination: NodeNumber,
+    turn_cost: &[u32],
+    turn_links: &[u16],
+    turn_back: &[u16],
+    link_cost: &[u32],
+    link_links: &[u16],
+    link_back: &[u16],
+    route: &mut [u16],
+) -> Routed
+    requires { ⌜ routeTests (now book) (origin .0) (destination .0) (three (now «turn_cost») (now «turn_links») (now «turn_back»)) (three (now «link_cost») (now «link_links») (now «link_back»)) ≡ Good counts ⌝ }
+    ensures { λ r. ⌜ Routing (now (book .entry)) (origin .0) (destination .0) (three (now («turn_cost» .entry)) (now («turn_links» .entry)) (now («turn_back» .entry))) (three (now («link_cost» .entry)) (now («link_links» .entry)) (now («link_back» .entry))) (now (route .entry)) r (now (route .exit)) ⌝ }
+{
+    let checked = carry(book, counts);
+    route_judged(
+        bytes_in(checked),
+        counts_in(checked),
+        origin,
+        destination,
+        turn_cost,
+        turn_links,
+        turn_back,
+        link_cost,
+        link_links,
+        link_back,
+        route,
+    )
+}
+
 // Document 01, "What can be asked": the labels are lent for reading only, and of the route buffer only the walk's own places are written.
 pub fn route(
     book: &[u8],
@@ -79,35 +162,19 @@ pub fn route(
         link_back,
     ) {
         Checked::Refused(found) => Routed::Refused(found),
-        Checked::Good(counts) => {
-            if !labels_true(
-                book,
-                counts,
-                origin,
-                turn_cost,
-                turn_links,
-                turn_back,
-                link_cost,
-                link_links,
-                link_back,
-            ) {
-                return Routed::Refused(Refusal {
-                    number: 13,
-                    place: 0,
-                });
-            }
-            route_onward(
-                book,
-                counts,
-                origin,
-                destination,
-                turn_back,
-                link_cost,
-                link_links,
-                link_back,
-                route,
-            )
-        }
+        Checked::Good(counts) => route_carried(
+            book,
+            counts,
+            origin,
+            destination,
+            turn_cost,
+            turn_links,
+            turn_back,
+            link_cost,
+            link_links,
+            link_back,
+            route,
+        ),
     }
 }
 

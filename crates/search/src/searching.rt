@@ -10,7 +10,10 @@ use book::Counts;
 use book::MOST_TURNS;
 use book::NodeNumber;
 use book::Refusal;
+use walk::bytes_in;
+use walk::carry;
 use walk::check;
+use walk::counts_in;
 use walk::read_walks;
 ghost use mathlib.Core.Path.{_≡_};
 ghost use Rattle.book.specs.declared.Checked.the-variants.{Good};
@@ -62,6 +65,36 @@ fn label_all(
     );
 }
 
+// The same, read out of the book that is carried with its counts.
+fn label_carried(
+    book: &[u8],
+    counts: Counts,
+    origin: NodeNumber,
+    turn_cost: &mut [u32],
+    turn_links: &mut [u16],
+    turn_back: &mut [u16],
+    link_cost: &mut [u32],
+    link_links: &mut [u16],
+    link_back: &mut [u16],
+)
+    requires { ⌜ checkOf (now book) ≡ Good counts ⌝ }
+    requires { ⌜ (Sized (counts .turns) (three (now «turn_cost») (now «turn_links») (now «turn_back»))) × (Sized (counts .links) (three (now «link_cost») (now «link_links») (now «link_back»))) ⌝ }
+    ensures { λ _. ⌜ TrueLabels (viewOf (now (book .entry)) counts) (origin .0) (three (now («turn_cost» .exit)) (now («turn_links» .exit)) (now («turn_back» .exit))) (three (now («link_cost» .exit)) (now («link_links» .exit)) (now («link_back» .exit))) ⌝ }
+{
+    let checked = carry(book, counts);
+    label_all(
+        bytes_in(checked),
+        counts_in(checked),
+        origin,
+        turn_cost,
+        turn_links,
+        turn_back,
+        link_cost,
+        link_links,
+        link_back,
+    )
+}
+
 // Document 01, "What can be asked": all entries are written, or nothing lent changes.
 pub fn search(
     book: &[u8],
@@ -86,7 +119,7 @@ pub fn search(
     ) {
         Checked::Refused(found) => Searched::Refused(found),
         Checked::Good(counts) => {
-            label_all(
+            label_carried(
                 book,
                 counts,
                 origin,

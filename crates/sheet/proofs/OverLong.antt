@@ -10,7 +10,7 @@ use Rattle.book.specs.declared.Refusal.{Refusal}
 use Rattle.book.specs.declared.Checked.the-variants.{Refused}
 use Rattle.book.specs.Header.{headerBytes}
 use Rattle.book.specs.Check.{checkOf}
-use Rattle.book.proofs.LargestBook.{largestBook, long-same}
+use Rattle.book.proofs.LargestBook.{largestBook, answered, long-refused, long-same}
 use Rattle.sheet.specs.Sheet.{beforeBook, originOf, destinationOf, bookOf, Planned, Says, short, asked}
 use Rattle.sheet.proofs.Determined.{plan-one}
 use Rattle.sheet.proofs.Plans.{refusalFields, book-refused}

@@ -22,4 +22,5 @@ pub mod Agreement
 pub mod BetterLaws
 pub mod CasesHold
 pub mod SheetsRefused
+pub mod ReadOn
 pub mod theory

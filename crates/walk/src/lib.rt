@@ -12,7 +12,10 @@ mod walks;
 
 pub use figures::START_BACK;
 pub use given::cost_of;
+pub use offered::bytes_in;
+pub use offered::carry;
 pub use offered::check;
+pub use offered::counts_in;
 pub use offered::link_from;
 pub use offered::link_to;
 pub use offered::number_at;

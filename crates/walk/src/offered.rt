@@ -1,5 +1,6 @@
 // What the layers above need of the day book, offered on.
 use book::Checked;
+use book::CheckedBook;
 use book::Counts;
 use book::LinkNumber;
 use book::NodeNumber;
@@ -18,6 +19,25 @@ pub fn check(book: &[u8]) -> Checked
     ensures { λ r. ⌜ r ≡ checkOf (now (book .entry)) ⌝ }
 {
     book::check(book)
+}
+
+pub fn carry<'a>(book: &'a [u8], counts: Counts) -> CheckedBook<'a>
+    requires { ⌜ checkOf (now book) ≡ Good counts ⌝ }
+    ensures { λ r. ⌜ (r .bytes ≡ book .entry) × (r .counts ≡ counts) ⌝ }
+{
+    book::carry(book, counts)
+}
+
+pub fn bytes_in<'a>(checked: CheckedBook<'a>) -> &'a [u8]
+    ensures { λ r. ⌜ r ≡ checked .entry .bytes ⌝ }
+{
+    book::bytes_in(checked)
+}
+
+pub fn counts_in<'a>(checked: CheckedBook<'a>) -> Counts
+    ensures { λ r. ⌜ r ≡ checked .entry .counts ⌝ }
+{
+    book::counts_in(checked)
 }
 
 pub fn number_at(bytes: &[u8], at: usize) -> u16

@@ -1,0 +1,43 @@
+-- Each part is no longer than its whole.
+use lib.ListN.{length-take}
+use native.Mathlib.Omega.{arith}
+use borrow.Author.Needs.{needs}
+use Rattle.faults.proofs.asking.front_costs.Statement.{statement}
+use Rattle.faults.proofs.asking.front_costs.Tie as tie
+
+within-requires : tie.Need-within-requires
+within-requires c κs = search needs
+
+within-requires-2 : tie.Need-within-requires-2
+within-requires-2 c κs = search needs
+
+slice-aggregate-cost-of : tie.Need-slice-aggregate-cost-of
+slice-aggregate-cost-of c = simp length-take (omega arith)
+
+slice-aggregate-cost-of-2 : tie.Need-slice-aggregate-cost-of-2
+slice-aggregate-cost-of-2 c = simp length-take (omega arith)
+
+cost-of-requires : tie.Need-cost-of-requires
+cost-of-requires c κs = search needs
+
+enum-known-found : tie.Need-enum-known-found
+enum-known-found c = search needs
+
+returns : tie.Need-returns
+returns c = search needs
+
+returns-2 : tie.Need-returns-2
+returns-2 c = search needs
+
+pub front-costs-spec : {M : Type 1} → statement M
+front-costs-spec =
+    tie.close
+    (tie.spec
+    within-requires
+    within-requires-2
+    slice-aggregate-cost-of
+    slice-aggregate-cost-of-2
+    cost-of-requires
+    enum-known-found
+    returns
+    returns-2)

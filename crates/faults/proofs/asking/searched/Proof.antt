@@ -1,0 +1,58 @@
+-- The parts that are lent lie within the arrays, since the lengths do.
+use lib.ListN.{length}
+use mathlib.Core.Path.{_≡_, sym}
+use borrow.Author.Needs.{needs}
+use Rattle.faults.proofs.asking.searched.Statement.{statement}
+use Rattle.faults.proofs.asking.searched.Tie as tie
+
+held : (c : tie.Start) → (length (c .args .book .bytes) ≡ 256) × (length (c .args .before .«turn_cost») ≡ 16) × (length (c .args .before .«turn_links») ≡ 16) × (length (c .args .before .«turn_back») ≡ 16) × (length (c .args .before .«link_cost») ≡ 16) × (length (c .args .before .«link_links») ≡ 16) × (length (c .args .before .«link_back») ≡ 16)
+held c = search needs
+
+lengths-of-requires : tie.Need-lengths-of-requires
+lengths-of-requires c κs = search needs
+
+slice-aggregate-search-lent : tie.Need-slice-aggregate-search-lent
+slice-aggregate-search-lent c = search needs
+
+slice-aggregate-search-lent-2 : tie.Need-slice-aggregate-search-lent-2
+slice-aggregate-search-lent-2 c = search needs
+
+slice-aggregate-search-lent-3 : tie.Need-slice-aggregate-search-lent-3
+slice-aggregate-search-lent-3 c = search needs
+
+slice-aggregate-search-lent-4 : tie.Need-slice-aggregate-search-lent-4
+slice-aggregate-search-lent-4 c = search needs
+
+slice-aggregate-search-lent-5 : tie.Need-slice-aggregate-search-lent-5
+slice-aggregate-search-lent-5 c = search needs
+
+slice-aggregate-search-lent-6 : tie.Need-slice-aggregate-search-lent-6
+slice-aggregate-search-lent-6 c = search needs
+
+slice-aggregate-search-lent-7 : tie.Need-slice-aggregate-search-lent-7
+slice-aggregate-search-lent-7 c = search needs
+
+search-lent-requires : tie.Need-search-lent-requires
+search-lent-requires c κs = (c .before .before .before .before .before .before .before .before .before .before .before .before .before .before .lengths-of .ensures, held (c .before .before .before .before .before .before .before .before .before .before .before .before .before .before .before))
+
+given-back-requires : tie.Need-given-back-requires
+given-back-requires c κs = search needs
+
+returns : tie.Need-returns
+returns c = search needs
+
+pub searched-spec : {M : Type 1} → statement M
+searched-spec =
+    tie.close
+    (tie.spec
+    lengths-of-requires
+    slice-aggregate-search-lent
+    slice-aggregate-search-lent-2
+    slice-aggregate-search-lent-3
+    slice-aggregate-search-lent-4
+    slice-aggregate-search-lent-5
+    slice-aggregate-search-lent-6
+    slice-aggregate-search-lent-7
+    search-lent-requires
+    given-back-requires
+    returns)

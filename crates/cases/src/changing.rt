@@ -1,4 +1,4 @@
-// What is done to the labels of a search before a route is asked with them.
+// What is done to the labels of a search before they are lent to a route or an edit.
 use std::num::wrapping_add_u16;
 use std::num::wrapping_add_u32;
 ghost use Prim.Native.Nat.{_≤_};

@@ -1,4 +1,4 @@
-// What the programs of cases share: books made number by number, their labels, and the line of a case.
+// What the programs share: books made number by number, their labels, and the line of a case.
 mod books;
 mod chain;
 mod changing;

@@ -1,4 +1,4 @@
--- Document 01, "Book A": the marked cases P1 to P10, and what each says of walks. Beside them, sheets that are refused.
+-- Document 01, "Book A": the marked cases P1 to P10, and what each says of walks.
 use Prim.Native.Nat.{ℕ, _<_}
 use mathlib.Core.Path.{_≡_}
 use mathlib.Core.List.{List, [], _∷_}

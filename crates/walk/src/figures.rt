@@ -1,4 +1,4 @@
-// The figures that this layer gives a meaning of its own.
+// Figures of walks.
 
 // Stands for the turn before, where there is none.
 pub const START_BACK: u16 = 65534;

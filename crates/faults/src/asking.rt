@@ -3,6 +3,9 @@ use super::books::BOOK_ROOM;
 use super::books::Book;
 use super::reading::LINKS;
 use super::reading::TURNS;
+use super::walks::Added;
+use super::walks::not_permitted;
+use super::walks::permitted_at;
 use book::NodeNumber;
 use book::Refusal;
 use book::TurnNumber;
@@ -65,7 +68,7 @@ pub struct Route {
     pub links: [u16; ROOM],
 }
 
-pub struct Edition {
+pub struct AfterEdit {
     pub figures: EditFigures,
     pub book: Book,
     pub labels: Labels,
@@ -299,7 +302,7 @@ fn edit_lent(
     )
 }
 
-pub fn edited(book: Book, asked: Asked, change: Change, before: Labels) -> Edition {
+pub fn edited(book: Book, asked: Asked, change: Change, before: Labels) -> AfterEdit {
     let lengths = lengths_of(book, change);
     let mut bytes = book.bytes;
     let mut turn_cost = before.turn_cost;
@@ -319,7 +322,7 @@ pub fn edited(book: Book, asked: Asked, change: Change, before: Labels) -> Editi
         &mut link_links,
         &mut link_back,
     );
-    Edition {
+    AfterEdit {
         figures: edit::given_back(answer),
         book: Book {
             bytes,
@@ -337,18 +340,20 @@ pub fn edited(book: Book, asked: Asked, change: Change, before: Labels) -> Editi
     }
 }
 
-fn front_costs(
+// Whether `cost_of` gives the wanted answer about the walk of the first links.
+pub fn front_costs(
     bytes: &[u8],
     length: usize,
     origin: u16,
     links: &[u16],
-    count: u16,
-    cost: u32,
+    count: usize,
+    wanted: Added,
 ) -> bool {
     let end = within(length, bytes.len());
-    let front = within(count as usize, links.len());
+    let front = within(count, links.len());
     match cost_of(&bytes[..end], NodeNumber(origin), &links[..front]) {
-        Costed::Permitted(found) => found == cost,
+        Costed::Permitted(found) => permitted_at(wanted, found as u64),
+        Costed::NotPermitted => not_permitted(wanted),
         _ => false,
     }
 }
@@ -356,5 +361,12 @@ fn front_costs(
 // Whether the first links of a route are a permitted walk of exactly this cost.
 pub fn walk_costs(book: Book, origin: u16, links: [u16; ROOM], count: u16, cost: u32) -> bool {
     let bytes = book.bytes;
-    front_costs(&bytes, book.length, origin, &links, count, cost)
+    front_costs(
+        &bytes,
+        book.length,
+        origin,
+        &links,
+        count as usize,
+        Added::Seconds(cost as u64),
+    )
 }

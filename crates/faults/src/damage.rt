@@ -1,4 +1,4 @@
-// Damage to a good book: each kind breaks one rule of document 01, and the last alters any byte.
+// Damage to a good book: for each kind it is known beforehand which number check gives, except for the last, which alters any byte.
 use super::books::BOOK_ROOM;
 use super::books::Book;
 use super::books::number_of;
@@ -66,8 +66,8 @@ fn one_beside(length: usize, choice: u16) -> usize {
     longer - 2
 }
 
-// The byte where an entry begins, in the table whose entries give this number.
-fn entry_place(book: Book, number: u16, entry: u16, field: u16) -> usize {
+// The byte where a field of an entry begins, in the table whose entries give this number.
+fn field_place(book: Book, number: u16, entry: u16, field: u16) -> usize {
     let bytes = book.bytes;
     match number {
         6 => line_place(entry),
@@ -99,7 +99,7 @@ fn bad_entry(book: Book, number: u16) -> Damaged {
     Damaged {
         book: with_number(
             last,
-            entry_place(last, number, entry, 2 * (field % 3)),
+            field_place(last, number, entry, 2 * (field % 3)),
             ABOVE_LIMITS,
         ),
         number,

@@ -1,6 +1,6 @@
 // Edits: the labels that they leave are a fresh search's, the counts are those of the entries that differ, and the book differs in one walk.
+use super::asking::AfterEdit;
 use super::asking::Asked;
-use super::asking::Edition;
 use super::asking::Labels;
 use super::asking::edited;
 use super::asking::entries_of;
@@ -17,7 +17,7 @@ use super::reading::SECONDS;
 use super::reading::TURNS;
 use super::reading::turn_place;
 use super::refusing::edit_refuses;
-use super::refusing::plain;
+use super::refusing::refusal_of;
 use super::tally::ALTERED_ENTRIES;
 use super::tally::ALTERING_EDITS;
 use super::tally::EDITS;
@@ -29,7 +29,7 @@ use super::tally::one_where;
 use super::tally::sum;
 use cases::Change;
 
-fn with_walk(book: Book, turn: u16, walk: u16) -> Book {
+fn book_with_walk(book: Book, turn: u16, walk: u16) -> Book {
     let bytes = book.bytes;
     with_number(book, turn_place(&bytes, turn, SECONDS), walk)
 }
@@ -46,12 +46,18 @@ fn count_edit(turns: u64, links: u64, tally: Tally) -> Tally {
     counted(next, ALTERING_EDITS, one_where(0 < entries))
 }
 
-fn hold_edition(book: Book, asked: Asked, labels: Labels, edition: Edition, tally: Tally) -> Tally {
-    let wanted = with_walk(book, asked.turn, asked.walk);
+fn hold_after_edit(
+    book: Book,
+    asked: Asked,
+    labels: Labels,
+    after: AfterEdit,
+    tally: Tally,
+) -> Tally {
+    let wanted = book_with_walk(book, asked.turn, asked.walk);
     let fresh = searched(wanted, asked.origin, Change::Nothing, unwritten());
     let turns = differing(labels, fresh.labels, 0);
     let links = differing(labels, fresh.labels, FIRST_LINK);
-    let figures = edition.figures;
+    let figures = after.figures;
     let next = held(
         count_edit(turns, links, tally),
         (figures.number == 0) & (figures.place == 0) & (fresh.answer.number == 0),
@@ -61,19 +67,19 @@ fn hold_edition(book: Book, asked: Asked, labels: Labels, edition: Edition, tall
         (figures.turns as u64 == turns) & (figures.links as u64 == links),
     );
     held(
-        held(last, same_books(edition.book, wanted)),
-        same_labels(edition.labels, fresh.labels),
+        held(last, same_books(after.book, wanted)),
+        same_labels(after.labels, fresh.labels),
     )
 }
 
 pub fn hold_edit(book: Book, asked: Asked, labels: Labels, tally: Tally) -> Tally {
-    let edition = edited(book, asked, Change::Nothing, labels);
+    let after = edited(book, asked, Change::Nothing, labels);
     if !allowed(book, asked) {
         return held_answer(
             tally,
-            edition.figures.number,
-            edit_refuses(edition, plain(11), book, labels),
+            after.figures.number,
+            edit_refuses(after, refusal_of(11), book, labels),
         );
     }
-    hold_edition(book, asked, labels, edition, tally)
+    hold_after_edit(book, asked, labels, after, tally)
 }

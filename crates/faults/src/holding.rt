@@ -11,6 +11,7 @@ use super::labelling::count_reached;
 use super::labelling::hold_figures;
 use super::labelling::hold_listing;
 use super::labelling::hold_other;
+use super::listing::listed;
 use super::questions::Questions;
 use super::reading::NODES;
 use super::refusing::all_refuse;
@@ -22,6 +23,7 @@ use super::tally::PLACES;
 use super::tally::Tally;
 use super::tally::counted;
 use super::tally::held;
+use book::Refusal;
 use cases::Change;
 
 fn hold_good(book: Book, questions: Questions, tally: Tally) -> Tally {
@@ -30,8 +32,9 @@ fn hold_good(book: Book, questions: Questions, tally: Tally) -> Tally {
     let labels = found.labels;
     let tally = held(tally, found.answer.number == 0);
     let tally = count_reached(book, labels, tally);
-    let tally = hold_listing(book, asked.origin, labels, tally);
-    let tally = hold_routes(book, asked, labels, tally);
+    let listing = listed(book, asked.origin);
+    let tally = hold_listing(book, labels, listing, tally);
+    let tally = hold_routes(book, asked, labels, listing, tally);
     let tally = hold_figures(book, asked, labels, questions.more, tally);
     let tally = hold_other(book, asked, questions.other_origin, labels, tally);
     let tally = hold_edit(book, asked, labels, tally);
@@ -39,15 +42,26 @@ fn hold_good(book: Book, questions: Questions, tally: Tally) -> Tally {
     hold_no_node(book, asked, number_of(book, NODES), labels, tally)
 }
 
-// Check gives what the damage calls for, and the other questions give the same.
+// Check gives what the damage calls for, where it calls for one number.
+fn hold_damage(damaged: Damaged, refusal: Refusal, tally: Tally) -> Tally {
+    if damaged.number == ANY_NUMBER {
+        return tally;
+    }
+    let same_number = damaged.number as usize == refusal.number as usize;
+    held(
+        tally,
+        same_number & (damaged.place as usize == refusal.place),
+    )
+}
+
+// What check gives, the other questions give too.
 pub fn hold(damaged: Damaged, questions: Questions, tally: Tally) -> Tally {
     let book = damaged.book;
     let asked = questions.asked;
     let refusal = checked(book);
     let number = refusal.number as usize;
     let tally = counted(counted(tally, BOOKS, 1), number, 1);
-    let expected = (damaged.number as usize == number) & (damaged.place as usize == refusal.place);
-    let tally = held(tally, expected | (damaged.number == ANY_NUMBER));
+    let tally = hold_damage(damaged, refusal, tally);
     if number == 0 {
         if number_of(book, NODES) == 0 {
             return hold_no_node(book, asked, 0, unwritten(), tally);

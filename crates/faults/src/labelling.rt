@@ -16,16 +16,15 @@ use super::comparing::same_entry;
 use super::comparing::same_labels;
 use super::editing::allowed;
 use super::listing::Listing;
-use super::listing::MOST_TURNS;
+use super::listing::MOST_TURNS_LISTED;
 use super::listing::chosen_for_link;
 use super::listing::chosen_for_turn;
 use super::listing::entry_of;
-use super::listing::list;
 use super::reading::LINKS;
 use super::reading::TURNS;
 use super::reading::number_in;
 use super::refusing::edit_refuses;
-use super::refusing::plain;
+use super::refusing::refusal_of;
 use super::refusing::route_refuses;
 use super::tally::ALTERED_FIGURES;
 use super::tally::LISTED_BOOKS;
@@ -34,11 +33,13 @@ use super::tally::LISTED_WALKS;
 use super::tally::REACHED;
 use super::tally::SETTLED_BY_LINKS;
 use super::tally::SETTLED_BY_NUMBERS;
+use super::tally::TRIED_WALKS;
 use super::tally::Tally;
 use super::tally::UNREACHED;
 use super::tally::counted;
 use super::tally::held;
 use super::tally::held_answer;
+use super::tally::held_many;
 use super::tally::one_where;
 use super::walks::Walk;
 use cases::Change;
@@ -72,13 +73,11 @@ fn hold_entry(
     links: usize,
     tally: Tally,
 ) -> Tally {
-    let next = counted(tally, LISTED_ENTRIES, 1);
+    let same = same_entry(entry_at(labels, entry), entry_of(book, walk, links));
+    let next = counted(tally, LISTED_ENTRIES, one_where(same));
     let settled = counted(next, SETTLED_BY_LINKS, one_where(walk.longer));
     let last = counted(settled, SETTLED_BY_NUMBERS, one_where(walk.level));
-    held(
-        last,
-        same_entry(entry_at(labels, entry), entry_of(book, walk, links)),
-    )
+    held(last, same)
 }
 
 fn hold_turns(book: &[u8], labels: Labels, listing: Listing, tally: Tally) -> Tally {
@@ -105,35 +104,40 @@ fn hold_links(book: &[u8], labels: Labels, listing: Listing, tally: Tally) -> Ta
     next
 }
 
-// Every entry against the plain listing of walks.
-pub fn hold_listing(book: Book, origin: u16, labels: Labels, tally: Tally) -> Tally {
-    if MOST_TURNS < number_of(book, TURNS) {
+fn hold_entries(book: Book, labels: Labels, listing: Listing, tally: Tally) -> Tally {
+    let bytes = book.bytes;
+    let next = hold_turns(&bytes, labels, listing, tally);
+    hold_links(&bytes, labels, listing, next)
+}
+
+// Every entry against the plain listing of walks, and `cost_of` against each walk that was tried.
+pub fn hold_listing(book: Book, labels: Labels, listing: Listing, tally: Tally) -> Tally {
+    if MOST_TURNS_LISTED < number_of(book, TURNS) {
         return tally;
     }
-    let bytes = book.bytes;
-    let listing = list(&bytes, origin);
     let next = held(counted(tally, LISTED_BOOKS, 1), listing.ended);
-    let last = counted(next, LISTED_WALKS, listing.permitted);
-    hold_links(
-        &bytes,
-        labels,
-        listing,
-        hold_turns(&bytes, labels, listing, last),
-    )
+    let tried = counted(next, TRIED_WALKS, listing.tried);
+    let costed = held_many(tried, listing.tried, listing.differing);
+    let last = counted(costed, LISTED_WALKS, listing.permitted);
+    hold_entries(book, labels, listing, last)
 }
 
 // Labels that are not true: route and edit refuse them, and change nothing.
 fn hold_untrue(book: Book, asked: Asked, labels: Labels, tally: Tally) -> Tally {
     let route = routed(book, asked, Change::Nothing, labels);
-    let next = held_answer(tally, route.figures.number, route_refuses(route, plain(13)));
+    let next = held_answer(
+        tally,
+        route.figures.number,
+        route_refuses(route, refusal_of(13)),
+    );
     if !allowed(book, asked) {
         return next;
     }
-    let edition = edited(book, asked, Change::Nothing, labels);
+    let after = edited(book, asked, Change::Nothing, labels);
     held_answer(
         next,
-        edition.figures.number,
-        edit_refuses(edition, plain(13), book, labels),
+        after.figures.number,
+        edit_refuses(after, refusal_of(13), book, labels),
     )
 }
 
@@ -179,9 +183,10 @@ pub fn hold_figures(book: Book, asked: Asked, labels: Labels, more: u16, tally: 
 // The labels of another origin are refused exactly where they differ.
 pub fn hold_other(book: Book, asked: Asked, other: u16, labels: Labels, tally: Tally) -> Tally {
     let found = searched(book, other, Change::Nothing, labels);
+    let next = held(tally, found.answer.number == 0);
     if same_labels(found.labels, labels) {
         let route = routed(book, asked, Change::Nothing, found.labels);
-        return held(tally, route.figures.number != 13);
+        return held(next, route.figures.number != 13);
     }
-    hold_untrue(book, asked, found.labels, tally)
+    hold_untrue(book, asked, found.labels, next)
 }

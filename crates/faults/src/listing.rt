@@ -1,7 +1,12 @@
 // All permitted walks of up to turns + 1 links, one after the other, and the chosen one of each entry by document 01, "Labels".
+use super::asking::front_costs;
+use super::books::Book;
+use super::books::number_of;
 use super::reading::LINKS;
 use super::reading::TURNS;
 use super::reading::number_in;
+use super::tally::one_where;
+use super::tally::sum;
 use super::walks::Added;
 use super::walks::LONGEST;
 use super::walks::Walk;
@@ -12,7 +17,7 @@ use cases::NO_BACK;
 use cases::NO_COST;
 use search::Label;
 
-pub const MOST_TURNS: u16 = 5;
+pub const MOST_TURNS_LISTED: u16 = 5;
 
 // Turns first, then links.
 const ENTRIES: usize = 11;
@@ -25,6 +30,9 @@ const START_BACK: u16 = 65534;
 pub struct Listing {
     pub chosen: [Walk; ENTRIES],
     pub permitted: u64,
+    pub tried: u64,
+    // Tried walks that `cost_of` answers otherwise.
+    pub differing: u64,
     pub ended: bool,
 }
 
@@ -44,7 +52,7 @@ fn with_count(walk: Walk, count: usize) -> Walk {
     next
 }
 
-fn with_link(walk: Walk, at: usize, link: u16) -> Walk {
+fn walk_with_link(walk: Walk, at: usize, link: u16) -> Walk {
     if LONGEST <= at {
         return walk;
     }
@@ -53,8 +61,8 @@ fn with_link(walk: Walk, at: usize, link: u16) -> Walk {
     next
 }
 
-// The next link number in the last place; where there is none the place is left, and the one before it goes on.
-fn turned_on(walk: Walk, links: u16) -> Walk {
+// The next number in the last place, up to the first that is no link; after it the place is left, and the one before it goes on.
+fn next_not_longer(walk: Walk, links: u16) -> Walk {
     let mut next = walk;
     let mut count = walk.count;
     'places: loop {
@@ -62,8 +70,8 @@ fn turned_on(walk: Walk, links: u16) -> Walk {
             break 'places with_count(next, 0);
         }
         let link = link_of(next, count - 1);
-        if (link as usize) + 1 < (links as usize) {
-            break 'places with_count(with_link(next, count - 1, link + 1), count);
+        if link < links {
+            break 'places with_count(walk_with_link(next, count - 1, link + 1), count);
         }
         count -= 1;
     }
@@ -74,10 +82,10 @@ fn next_walk(walk: Walk, permitted: bool, links: u16, most: usize) -> Walk {
     let count = walk.count;
     if permitted {
         if count < most {
-            return with_count(with_link(walk, count, 0), count + 1);
+            return with_count(walk_with_link(walk, count, 0), count + 1);
         }
     }
-    turned_on(walk, links)
+    next_not_longer(walk, links)
 }
 
 // The smaller link number at the first difference, read from the last link towards the first.
@@ -135,18 +143,18 @@ fn offered(listing: Listing, entry: usize, walk: Walk) -> Listing {
     next
 }
 
-fn link_place(link: u16) -> usize {
-    (MOST_TURNS as usize) + (link as usize)
+fn entry_for_link(link: u16) -> usize {
+    (MOST_TURNS_LISTED as usize) + (link as usize)
 }
 
 // A permitted walk is offered to its last link, and to its last turn where it has one.
-fn with_walk(book: &[u8], listing: Listing, walk: Walk) -> Listing {
+fn listing_with_walk(book: &[u8], listing: Listing, walk: Walk) -> Listing {
     let count = walk.count;
     if count == 0 {
         return listing;
     }
     let last = link_of(walk, count - 1);
-    let mut next = offered(listing, link_place(last), walk);
+    let mut next = offered(listing, entry_for_link(last), walk);
     next.permitted = listing.permitted % 1000000 + 1;
     if count == 1 {
         return next;
@@ -166,20 +174,34 @@ struct Trying {
     walk: Walk,
 }
 
-// One walk tried.
-fn tried(book: &[u8], origin: u16, trying: Trying) -> Trying {
+fn cost_agrees(book: &[u8], length: usize, origin: u16, walk: Walk, added: Added) -> bool {
+    let links = walk.links;
+    front_costs(book, length, origin, &links, walk.count, added)
+}
+
+fn with_tried(listing: Listing, agrees: bool) -> Listing {
+    let mut next = listing;
+    next.tried = sum(listing.tried, 1);
+    next.differing = sum(listing.differing, one_where(!agrees));
+    next
+}
+
+// One walk tried, and `cost_of` asked about it.
+fn tried(book: &[u8], length: usize, origin: u16, trying: Trying) -> Trying {
     let links = number_in(book, LINKS);
     let turns = number_in(book, TURNS);
     let most = (turns as usize) + 1;
     let walk = trying.walk;
-    let listing = trying.listing;
-    match walk_seconds(book, origin, walk) {
+    let added = walk_seconds(book, origin, walk);
+    let agrees = cost_agrees(book, length, origin, walk, added);
+    let listing = with_tried(trying.listing, agrees);
+    match added {
         Added::NotPermitted => Trying {
             listing,
             walk: next_walk(walk, false, links, most),
         },
         Added::Seconds(seconds) => Trying {
-            listing: with_walk(book, listing, costed(walk, seconds)),
+            listing: listing_with_walk(book, listing, costed(walk, seconds)),
             walk: next_walk(walk, true, links, most),
         },
     }
@@ -191,15 +213,21 @@ fn with_end(listing: Listing) -> Listing {
     next
 }
 
-pub fn list(book: &[u8], origin: u16) -> Listing {
+fn nothing_listed() -> Listing {
     let empty = no_walk();
+    Listing {
+        chosen: [empty; ENTRIES],
+        permitted: 0,
+        tried: 0,
+        differing: 0,
+        ended: false,
+    }
+}
+
+fn list(book: &[u8], length: usize, origin: u16) -> Listing {
     let mut trying = Trying {
-        listing: Listing {
-            chosen: [empty; ENTRIES],
-            permitted: 0,
-            ended: false,
-        },
-        walk: with_count(empty, 1),
+        listing: nothing_listed(),
+        walk: with_count(no_walk(), 1),
     };
     let mut count = 0;
     'walks: loop {
@@ -209,12 +237,21 @@ pub fn list(book: &[u8], origin: u16) -> Listing {
         if trying.walk.count == 0 {
             break 'walks with_end(trying.listing);
         }
-        trying = tried(book, origin, trying);
+        trying = tried(book, length, origin, trying);
         count += 1;
     }
 }
 
-pub fn chosen_walk(listing: Listing, entry: usize) -> Walk {
+// All walks of a book of few turns; none of any other, and then the listing has not ended.
+pub fn listed(book: Book, origin: u16) -> Listing {
+    if MOST_TURNS_LISTED < number_of(book, TURNS) {
+        return nothing_listed();
+    }
+    let bytes = book.bytes;
+    list(&bytes, book.length, origin)
+}
+
+fn chosen_walk(listing: Listing, entry: usize) -> Walk {
     if ENTRIES <= entry {
         return no_walk();
     }
@@ -226,7 +263,7 @@ pub fn chosen_for_turn(listing: Listing, turn: u16) -> Walk {
 }
 
 pub fn chosen_for_link(listing: Listing, link: u16) -> Walk {
-    chosen_walk(listing, link_place(link))
+    chosen_walk(listing, entry_for_link(link))
 }
 
 // The turn that ends so many links before the walk's last.

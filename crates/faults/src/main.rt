@@ -24,13 +24,13 @@ use tally::Tally;
 use tally::nothing_counted;
 use tally::say_tally;
 
-const BOOKS: u64 = 4000;
+const BOOKS_DRAWN: u64 = 4000;
 
 fn run() -> Tally {
     let mut state = SEED;
     let mut tally = nothing_counted();
     let mut book = 0u64;
-    'books: while book < BOOKS {
+    'books: while book < BOOKS_DRAWN {
         let drawn = damage(good_book(state));
         let questions = drawn_questions(drawn.book);
         tally = hold(drawn, questions, tally);

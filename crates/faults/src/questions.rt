@@ -42,6 +42,18 @@ fn drawn_origin(book: Book, kind: u16, any: u16) -> u16 {
     link_figure(&bytes, 0, LINK_FROM)
 }
 
+// Another node than the origin, where there is one.
+fn drawn_other(state: u64, nodes: u16, origin: u16) -> u16 {
+    if nodes < 2 {
+        return origin;
+    }
+    let other = drawn(state, nodes - 1);
+    if other < origin {
+        return other;
+    }
+    other + 1
+}
+
 pub fn drawn_questions(book: Book) -> Questions {
     let kind_state = next_state(book.state);
     let origin_state = next_state(kind_state);
@@ -50,15 +62,16 @@ pub fn drawn_questions(book: Book) -> Questions {
     let walk_state = next_state(turn_state);
     let more_state = next_state(walk_state);
     let nodes = number_of(book, NODES);
+    let origin = drawn_origin(book, drawn(kind_state, 2), drawn(origin_state, nodes));
     Questions {
         asked: Asked {
-            origin: drawn_origin(book, drawn(kind_state, 2), drawn(origin_state, nodes)),
+            origin,
             destination: 0,
             room: ROOM,
             turn: drawn_turn(book, turn_state),
             walk: NEW_WALKS[tenth(walk_state)],
         },
-        other_origin: drawn(other_state, nodes),
+        other_origin: drawn_other(other_state, nodes, origin),
         more: 1 + drawn(more_state, 65534),
         state: more_state,
     }

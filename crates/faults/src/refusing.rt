@@ -1,6 +1,6 @@
 // What every question refuses alike: a bad book, an origin that is no node, label buffers of another length.
+use super::asking::AfterEdit;
 use super::asking::Asked;
-use super::asking::Edition;
 use super::asking::Found;
 use super::asking::Labels;
 use super::asking::MARK;
@@ -13,7 +13,6 @@ use super::asking::searched;
 use super::books::Book;
 use super::comparing::same_books;
 use super::comparing::same_labels;
-use super::reading::LINKS;
 use super::reading::TURNS;
 use super::tally::Tally;
 use super::tally::held_answer;
@@ -52,8 +51,8 @@ pub fn route_refuses(route: Route, refusal: Refusal) -> bool {
         & marks_kept(links, 0)
 }
 
-pub fn edit_refuses(edition: Edition, refusal: Refusal, book: Book, labels: Labels) -> bool {
-    let figures = edition.figures;
+pub fn edit_refuses(after: AfterEdit, refusal: Refusal, book: Book, labels: Labels) -> bool {
+    let figures = after.figures;
     let answer = Refusal {
         number: figures.number,
         place: figures.place,
@@ -61,12 +60,12 @@ pub fn edit_refuses(edition: Edition, refusal: Refusal, book: Book, labels: Labe
     same_refusal(answer, refusal)
         & (figures.turns == 0)
         & (figures.links == 0)
-        & same_books(edition.book, book)
-        & same_labels(edition.labels, labels)
+        & same_books(after.book, book)
+        & same_labels(after.labels, labels)
 }
 
 // A number of document 01 with place 0.
-pub fn plain(number: u8) -> Refusal {
+pub fn refusal_of(number: u8) -> Refusal {
     Refusal { number, place: 0 }
 }
 
@@ -81,7 +80,7 @@ pub fn all_refuse(
 ) -> Tally {
     let found = searched(book, asked.origin, change, labels);
     let route = routed(book, asked, change, labels);
-    let edition = edited(book, asked, change, labels);
+    let after = edited(book, asked, change, labels);
     let next = held_answer(
         tally,
         found.answer.number,
@@ -90,8 +89,8 @@ pub fn all_refuse(
     let last = held_answer(next, route.figures.number, route_refuses(route, refusal));
     held_answer(
         last,
-        edition.figures.number,
-        edit_refuses(edition, refusal, book, labels),
+        after.figures.number,
+        edit_refuses(after, refusal, book, labels),
     )
 }
 
@@ -112,16 +111,15 @@ pub fn hold_no_node(book: Book, asked: Asked, nodes: u16, labels: Labels, tally:
         from_no_node(asked, nodes),
         Change::Nothing,
         labels,
-        plain(10),
+        refusal_of(10),
         tally,
     )
 }
 
-// One buffer is a number longer, or a number shorter where every table has one.
-fn other_length(book: Book, drawn: u16) -> Change {
+// One buffer is a number longer or a number shorter.
+fn other_length(drawn: u16) -> Change {
     let buffer = (drawn % 6) as usize;
-    let entries = (0 < entries_of(book, TURNS)) & (0 < entries_of(book, LINKS));
-    if entries & (drawn / 6 % 2 == 0) {
+    if drawn / 6 % 2 == 0 {
         return Change::Shorter(buffer);
     }
     Change::Longer(buffer)
@@ -139,9 +137,16 @@ fn to_first_turn(asked: Asked) -> Asked {
 }
 
 pub fn hold_length(book: Book, asked: Asked, drawn: u16, labels: Labels, tally: Tally) -> Tally {
-    let change = other_length(book, drawn);
     if entries_of(book, TURNS) == 0 {
         return tally;
     }
-    all_refuse(book, to_first_turn(asked), change, labels, plain(12), tally)
+    let change = other_length(drawn);
+    all_refuse(
+        book,
+        to_first_turn(asked),
+        change,
+        labels,
+        refusal_of(12),
+        tally,
+    )
 }

@@ -16,35 +16,41 @@ pub const UNREACHED: usize = 19;
 
 pub const LISTED_BOOKS: usize = 20;
 
-pub const LISTED_WALKS: usize = 21;
+pub const TRIED_WALKS: usize = 21;
 
-pub const LISTED_ENTRIES: usize = 22;
+pub const LISTED_WALKS: usize = 22;
 
-pub const SETTLED_BY_LINKS: usize = 23;
+pub const LISTED_ENTRIES: usize = 23;
 
-pub const SETTLED_BY_NUMBERS: usize = 24;
+pub const SETTLED_BY_LINKS: usize = 24;
 
-pub const ROUTES: usize = 25;
+pub const SETTLED_BY_NUMBERS: usize = 25;
 
-pub const ROUTE_LINKS: usize = 26;
+pub const ROUTES: usize = 26;
 
-pub const ROUTE_SECONDS: usize = 27;
+pub const EMPTY_ROUTES: usize = 27;
 
-pub const REPEATING_ROUTES: usize = 28;
+pub const ROUTE_LINKS: usize = 28;
 
-pub const EDITS: usize = 29;
+pub const ROUTE_SECONDS: usize = 29;
 
-pub const ALTERING_EDITS: usize = 30;
+pub const REPEATING_ROUTES: usize = 30;
 
-pub const ALTERED_ENTRIES: usize = 31;
+pub const LISTED_ROUTES: usize = 31;
 
-pub const ALTERED_FIGURES: usize = 32;
+pub const EDITS: usize = 32;
 
-pub const COMPARISONS: usize = 33;
+pub const ALTERING_EDITS: usize = 33;
 
-pub const DISAGREEMENTS: usize = 34;
+pub const ALTERED_ENTRIES: usize = 34;
 
-const KINDS: usize = 35;
+pub const ALTERED_FIGURES: usize = 35;
+
+pub const COMPARISONS: usize = 36;
+
+pub const DISAGREEMENTS: usize = 37;
+
+const KINDS: usize = 38;
 
 // Above every count, so that counting never runs over.
 const ABOVE_COUNTS: u64 = 1000000000000000;
@@ -88,6 +94,11 @@ pub fn held(tally: Tally, agree: bool) -> Tally {
     counted(next, DISAGREEMENTS, 1)
 }
 
+pub fn held_many(tally: Tally, comparisons: u64, disagreements: u64) -> Tally {
+    let next = counted(tally, COMPARISONS, comparisons);
+    counted(next, DISAGREEMENTS, disagreements)
+}
+
 // A question's answer, counted from 10 on; the numbers below are the book's.
 pub fn held_answer(tally: Tally, number: u8, agree: bool) -> Tally {
     let next = held(tally, agree);
@@ -129,6 +140,7 @@ fn say_labels(tally: Tally) {
     say_count(tally, REACHED, b"entries with a walk");
     say_count(tally, UNREACHED, b"entries without a walk");
     say_count(tally, LISTED_BOOKS, b"books listed walk by walk");
+    say_count(tally, TRIED_WALKS, b"walks tried, permitted or not");
     say_count(tally, LISTED_WALKS, b"permitted walks listed");
     say_count(
         tally,
@@ -145,10 +157,16 @@ fn say_labels(tally: Tally) {
 }
 
 fn say_answers(tally: Tally) {
-    say_count(tally, ROUTES, b"routes");
+    say_count(tally, EMPTY_ROUTES, b"routes of no links");
+    say_count(tally, ROUTES, b"routes of links");
     say_count(tally, ROUTE_LINKS, b"links of these routes");
     say_count(tally, ROUTE_SECONDS, b"seconds of these routes");
     say_count(tally, REPEATING_ROUTES, b"routes that repeat a link");
+    say_count(
+        tally,
+        LISTED_ROUTES,
+        b"routes of links that the listing gives again",
+    );
     say_count(tally, EDITS, b"edits");
     say_count(tally, ALTERING_EDITS, b"edits that altered entries");
     say_count(tally, ALTERED_ENTRIES, b"entries altered");

@@ -36,6 +36,20 @@ pub enum Added {
     NotPermitted,
 }
 
+pub fn permitted_at(added: Added, cost: u64) -> bool {
+    match added {
+        Added::NotPermitted => false,
+        Added::Seconds(seconds) => seconds == cost,
+    }
+}
+
+pub fn not_permitted(added: Added) -> bool {
+    match added {
+        Added::NotPermitted => true,
+        Added::Seconds(_) => false,
+    }
+}
+
 fn wide(number: u16) -> u64 {
     number as u64
 }

@@ -23,11 +23,26 @@ cost-of-requires c κs = search needs
 enum-known-found : tie.Need-enum-known-found
 enum-known-found c = search needs
 
+cast-permitted-at : tie.Need-cast-permitted-at
+cast-permitted-at c = search needs
+
+permitted-at-requires : tie.Need-permitted-at-requires
+permitted-at-requires c κs = search needs
+
+enum-told : tie.Need-enum-told
+enum-told c = search needs
+
+not-permitted-requires : tie.Need-not-permitted-requires
+not-permitted-requires c κs = search needs
+
 returns : tie.Need-returns
 returns c = search needs
 
 returns-2 : tie.Need-returns-2
 returns-2 c = search needs
+
+returns-3 : tie.Need-returns-3
+returns-3 c = search needs
 
 pub front-costs-spec : {M : Type 1} → statement M
 front-costs-spec =
@@ -39,5 +54,10 @@ front-costs-spec =
     slice-aggregate-cost-of-2
     cost-of-requires
     enum-known-found
+    cast-permitted-at
+    permitted-at-requires
+    enum-told
+    not-permitted-requires
     returns
-    returns-2)
+    returns-2
+    returns-3)

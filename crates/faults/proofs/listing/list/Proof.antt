@@ -5,10 +5,13 @@ use Rattle.faults.proofs.listing.list.Statement.{statement}
 use Rattle.faults.proofs.listing.list.Tie as tie
 
 abbrev Inv-walks : tie.InvT-walks
-Inv-walks book origin trying₀ count₀ trying count = count ≤ 20000
+Inv-walks book length origin trying₀ count₀ trying count = count ≤ 20000
 
 abbrev μ-walks : tie.MeasureT-walks
-μ-walks book origin trying₀ count₀ trying count = 20000 - count
+μ-walks book length origin trying₀ count₀ trying count = 20000 - count
+
+nothing-listed-requires : tie.Need-nothing-listed-requires Inv-walks μ-walks
+nothing-listed-requires c κs = search needs
 
 no-walk-requires : tie.Need-no-walk-requires Inv-walks μ-walks
 no-walk-requires c κs = search needs
@@ -46,6 +49,7 @@ list-spec =
     (tie.spec
     Inv-walks
     μ-walks
+    nothing-listed-requires
     no-walk-requires
     with-count-requires
     walks-holds

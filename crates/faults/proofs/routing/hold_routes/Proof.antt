@@ -5,10 +5,10 @@ use Rattle.faults.proofs.routing.hold_routes.Statement.{statement}
 use Rattle.faults.proofs.routing.hold_routes.Tie as tie
 
 abbrev Inv-destinations : tie.InvT-destinations
-Inv-destinations book asked labels next₀ destination₀ next destination = destination ≤ 6
+Inv-destinations book asked labels listing next₀ destination₀ next destination = destination ≤ 6
 
 abbrev μ-destinations : tie.MeasureT-destinations
-μ-destinations book asked labels next₀ destination₀ next destination = 6 - destination
+μ-destinations book asked labels listing next₀ destination₀ next destination = 6 - destination
 
 destinations-holds : tie.Need-destinations-holds Inv-destinations μ-destinations
 destinations-holds c = search needs

@@ -1,8 +1,8 @@
 -- The places that are left fall.
 use Prim.Native.Nat.{_<_}
 use borrow.Author.Needs.{needs}
-use Rattle.faults.proofs.listing.turned_on.Statement.{statement}
-use Rattle.faults.proofs.listing.turned_on.Tie as tie
+use Rattle.faults.proofs.listing.next_not_longer.Statement.{statement}
+use Rattle.faults.proofs.listing.next_not_longer.Tie as tie
 
 abbrev Inv-places : tie.InvT-places
 Inv-places links next count₀ count = (count < 18446744073709551616) × (links < 65536)
@@ -22,20 +22,14 @@ sub-link-of c = search needs
 link-of-requires : tie.Need-link-of-requires Inv-places μ-places
 link-of-requires c κs = search needs
 
-cast-if2 : tie.Need-cast-if2 Inv-places μ-places
-cast-if2 c = search needs
+sub-walk-with-link : tie.Need-sub-walk-with-link Inv-places μ-places
+sub-walk-with-link c = search needs
 
-add-if2 : tie.Need-add-if2 Inv-places μ-places
-add-if2 c = search needs
+add-walk-with-link : tie.Need-add-walk-with-link Inv-places μ-places
+add-walk-with-link c = search needs
 
-sub-with-link : tie.Need-sub-with-link Inv-places μ-places
-sub-with-link c = search needs
-
-add-with-link : tie.Need-add-with-link Inv-places μ-places
-add-with-link c = search needs
-
-with-link-requires : tie.Need-with-link-requires Inv-places μ-places
-with-link-requires c κs = search needs
+walk-with-link-requires : tie.Need-walk-with-link-requires Inv-places μ-places
+walk-with-link-requires c κs = search needs
 
 with-count-requires-2 : tie.Need-with-count-requires-2 Inv-places μ-places
 with-count-requires-2 c κs = search needs
@@ -55,8 +49,8 @@ returns c = search needs
 returns-2 : tie.Need-returns-2 Inv-places μ-places
 returns-2 c = search needs
 
-pub turned-on-spec : {M : Type 1} → statement M
-turned-on-spec =
+pub next-not-longer-spec : {M : Type 1} → statement M
+next-not-longer-spec =
     tie.close
     (tie.spec
     Inv-places
@@ -65,11 +59,9 @@ turned-on-spec =
     with-count-requires
     sub-link-of
     link-of-requires
-    cast-if2
-    add-if2
-    sub-with-link
-    add-with-link
-    with-link-requires
+    sub-walk-with-link
+    add-walk-with-link
+    walk-with-link-requires
     with-count-requires-2
     sub-count
     places-less

@@ -23,3 +23,6 @@ pub mod RouteLaws
 pub mod Determined
 pub mod NoRouteA
 pub mod Carrying
+pub mod LentOn
+pub mod LabelArguments
+pub mod RouteArguments

@@ -8,6 +8,7 @@ use super::tests::length_test;
 use super::tests::node_test;
 use super::tracing::trace;
 use book::Checked;
+use book::CheckedBook;
 use book::Counts;
 use book::NodeNumber;
 use book::Refusal;
@@ -104,8 +105,39 @@ fn route_judged(
     )
 }
 
-// The same, read out of the book that is carried with its counts.
+// The same, of a checked book that is carried with its counts: the book is taken apart here.
 fn route_carried(
+    checked: CheckedBook<'_>,
+    origin: NodeNumber,
+    destination: NodeNumber,
+    turn_cost: &[u32],
+    turn_links: &[u16],
+    turn_back: &[u16],
+    link_cost: &[u32],
+    link_links: &[u16],
+    link_back: &[u16],
+    route: &mut [u16],
+) -> Routed
+    requires { ⌜ routeTests (now (checked .bytes)) (origin .0) (destination .0) (three (now «turn_cost») (now «turn_links») (now «turn_back»)) (three (now «link_cost») (now «link_links») (now «link_back»)) ≡ Good (checked .counts) ⌝ }
+    ensures { λ r. ⌜ Routing (now (checked .entry .bytes)) (origin .0) (destination .0) (three (now («turn_cost» .entry)) (now («turn_links» .entry)) (now («turn_back» .entry))) (three (now («link_cost» .entry)) (now («link_links» .entry)) (now («link_back» .entry))) (now (route .entry)) r (now (route .exit)) ⌝ }
+{
+    route_judged(
+        bytes_in(checked),
+        counts_in(checked),
+        origin,
+        destination,
+        turn_cost,
+        turn_links,
+        turn_back,
+        link_cost,
+        link_links,
+        link_back,
+        route,
+    )
+}
+
+// The same, of a book and the counts that its check found: from here on they are carried together.
+fn route_checked(
     book: &[u8],
     counts: Counts,
     origin: NodeNumber,
@@ -121,10 +153,8 @@ fn route_carried(
     requires { ⌜ routeTests (now book) (origin .0) (destination .0) (three (now «turn_cost») (now «turn_links») (now «turn_back»)) (three (now «link_cost») (now «link_links») (now «link_back»)) ≡ Good counts ⌝ }
     ensures { λ r. ⌜ Routing (now (book .entry)) (origin .0) (destination .0) (three (now («turn_cost» .entry)) (now («turn_links» .entry)) (now («turn_back» .entry))) (three (now («link_cost» .entry)) (now («link_links» .entry)) (now («link_back» .entry))) (now (route .entry)) r (now (route .exit)) ⌝ }
 {
-    let checked = carry(book, counts);
-    route_judged(
-        bytes_in(checked),
-        counts_in(checked),
+    route_carried(
+        carry(book, counts),
         origin,
         destination,
         turn_cost,
@@ -162,7 +192,7 @@ pub fn route(
         link_back,
     ) {
         Checked::Refused(found) => Routed::Refused(found),
-        Checked::Good(counts) => route_carried(
+        Checked::Good(counts) => route_checked(
             book,
             counts,
             origin,

@@ -6,6 +6,7 @@ use super::starts::start_links;
 use super::tests::length_test;
 use super::tests::node_test;
 use book::Checked;
+use book::CheckedBook;
 use book::Counts;
 use book::MOST_TURNS;
 use book::NodeNumber;
@@ -65,8 +66,36 @@ fn label_all(
     );
 }
 
-// The same, read out of the book that is carried with its counts.
+// The same, of a checked book that is carried with its counts: the book is taken apart here.
 fn label_carried(
+    checked: CheckedBook<'_>,
+    origin: NodeNumber,
+    turn_cost: &mut [u32],
+    turn_links: &mut [u16],
+    turn_back: &mut [u16],
+    link_cost: &mut [u32],
+    link_links: &mut [u16],
+    link_back: &mut [u16],
+)
+    requires { ⌜ checkOf (now (checked .bytes)) ≡ Good (checked .counts) ⌝ }
+    requires { ⌜ (Sized (checked .counts .turns) (three (now «turn_cost») (now «turn_links») (now «turn_back»))) × (Sized (checked .counts .links) (three (now «link_cost») (now «link_links») (now «link_back»))) ⌝ }
+    ensures { λ _. ⌜ TrueLabels (viewOf (now (checked .entry .bytes)) (checked .entry .counts)) (origin .0) (three (now («turn_cost» .exit)) (now («turn_links» .exit)) (now («turn_back» .exit))) (three (now («link_cost» .exit)) (now («link_links» .exit)) (now («link_back» .exit))) ⌝ }
+{
+    label_all(
+        bytes_in(checked),
+        counts_in(checked),
+        origin,
+        turn_cost,
+        turn_links,
+        turn_back,
+        link_cost,
+        link_links,
+        link_back,
+    )
+}
+
+// The same, of a book and the counts that its check found: from here on they are carried together.
+fn label_checked(
     book: &[u8],
     counts: Counts,
     origin: NodeNumber,
@@ -81,10 +110,8 @@ fn label_carried(
     requires { ⌜ (Sized (counts .turns) (three (now «turn_cost») (now «turn_links») (now «turn_back»))) × (Sized (counts .links) (three (now «link_cost») (now «link_links») (now «link_back»))) ⌝ }
     ensures { λ _. ⌜ TrueLabels (viewOf (now (book .entry)) counts) (origin .0) (three (now («turn_cost» .exit)) (now («turn_links» .exit)) (now («turn_back» .exit))) (three (now («link_cost» .exit)) (now («link_links» .exit)) (now («link_back» .exit))) ⌝ }
 {
-    let checked = carry(book, counts);
-    label_all(
-        bytes_in(checked),
-        counts_in(checked),
+    label_carried(
+        carry(book, counts),
         origin,
         turn_cost,
         turn_links,
@@ -119,7 +146,7 @@ pub fn search(
     ) {
         Checked::Refused(found) => Searched::Refused(found),
         Checked::Good(counts) => {
-            label_carried(
+            label_checked(
                 book,
                 counts,
                 origin,

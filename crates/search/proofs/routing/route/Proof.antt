@@ -24,8 +24,8 @@ enum-known-found c = search needs
 enum-known-counts : tie.Need-enum-known-counts
 enum-known-counts c = search needs
 
-route-carried-requires : tie.Need-route-carried-requires
-route-carried-requires c κs = sym (route-tested _ _ _ _ _ (c .before .before .before .before .before .before .before .check .ensures) (c .before .before .before .before .before .before .node-test .ensures) (c .before .before .before .before .before .node-test2 .ensures) (c .before .before .before .before .length-test .ensures)) ∙ c .before .before .counts .given .1
+route-checked-requires : tie.Need-route-checked-requires
+route-checked-requires c κs = sym (route-tested _ _ _ _ _ (c .before .before .before .before .before .before .before .check .ensures) (c .before .before .before .before .before .before .node-test .ensures) (c .before .before .before .before .before .node-test2 .ensures) (c .before .before .before .before .length-test .ensures)) ∙ c .before .before .counts .given .1
 
 returns : tie.Need-returns
 returns c = refused _ (sym (route-tested _ _ _ _ _ (c .before .before .before .before .before .before .check .ensures) (c .before .before .before .before .before .node-test .ensures) (c .before .before .before .before .node-test2 .ensures) (c .before .before .before .length-test .ensures)) ∙ c .before .found .given .1) refl refl
@@ -46,7 +46,7 @@ route-spec =
     length-test-requires
     enum-known-found
     enum-known-counts
-    route-carried-requires
+    route-checked-requires
     returns
     same-length
     returns-2)

@@ -21,8 +21,8 @@ enum-known-found c = search needs
 enum-known-counts : tie.Need-enum-known-counts
 enum-known-counts c = search needs
 
-label-carried-requires : tie.Need-label-carried-requires
-label-carried-requires c κs = search-passed _ _ _ _ _ (sym (search-tested _ _ _ _ (c .before .before .before .before .before .before .before .before .before .before .before .before .before .before .before .before .before .check .ensures) (c .before .before .before .before .before .before .before .before .before .before .before .before .before .before .before .before .node-test .ensures) (c .before .before .before .before .before .before .before .before .before .length-test .ensures)) ∙ c .before .before .before .before .before .before .before .counts .given .1)
+label-checked-requires : tie.Need-label-checked-requires
+label-checked-requires c κs = search-passed _ _ _ _ _ (sym (search-tested _ _ _ _ (c .before .before .before .before .before .before .before .before .before .before .before .before .before .before .before .before .before .check .ensures) (c .before .before .before .before .before .before .before .before .before .before .before .before .before .before .before .before .node-test .ensures) (c .before .before .before .before .before .before .before .before .before .length-test .ensures)) ∙ c .before .before .before .before .before .before .before .counts .given .1)
 
 same-length : tie.Need-same-length
 same-length c = search needs
@@ -64,7 +64,7 @@ same-length-12 : tie.Need-same-length-12
 same-length-12 c = search needs
 
 returns-2 : tie.Need-returns-2
-returns-2 c = done _ (sym (search-tested _ _ _ _ (c .before .before .before .before .before .before .before .before .before .before .before .before .before .before .before .before .before .before .before .before .before .before .before .before .before .before .before .before .before .before .check .ensures) (c .before .before .before .before .before .before .before .before .before .before .before .before .before .before .before .before .before .before .before .before .before .before .before .before .before .before .before .before .before .node-test .ensures) (c .before .before .before .before .before .before .before .before .before .before .before .before .before .before .before .before .before .before .before .before .before .before .length-test .ensures)) ∙ c .before .before .before .before .before .before .before .before .before .before .before .before .before .before .before .before .before .before .before .before .counts .given .1) refl (c .before .before .before .before .before .before .before .before .before .before .before .before .label-carried .ensures)
+returns-2 c = done _ (sym (search-tested _ _ _ _ (c .before .before .before .before .before .before .before .before .before .before .before .before .before .before .before .before .before .before .before .before .before .before .before .before .before .before .before .before .before .before .check .ensures) (c .before .before .before .before .before .before .before .before .before .before .before .before .before .before .before .before .before .before .before .before .before .before .before .before .before .before .before .before .before .node-test .ensures) (c .before .before .before .before .before .before .before .before .before .before .before .before .before .before .before .before .before .before .before .before .before .before .length-test .ensures)) ∙ c .before .before .before .before .before .before .before .before .before .before .before .before .before .before .before .before .before .before .before .before .counts .given .1) refl (c .before .before .before .before .before .before .before .before .before .before .before .before .label-checked .ensures)
 
 pub search-spec : {M : Type 1} → statement M
 search-spec =
@@ -75,7 +75,7 @@ search-spec =
     length-test-requires
     enum-known-found
     enum-known-counts
-    label-carried-requires
+    label-checked-requires
     same-length
     same-length-2
     same-length-3

@@ -11,7 +11,7 @@ pub const HEADER_BYTES: usize = 17;
 
 const MOST_NODES: usize = 1024;
 
-const MOST_LINES: usize = 256;
+pub const MOST_LINES: usize = 256;
 
 pub const MOST_LINKS: usize = 2048;
 

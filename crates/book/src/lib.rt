@@ -27,6 +27,7 @@ pub use fields::turn_first;
 pub use fields::turn_second;
 pub use fields::turn_walk;
 pub use fields::write_walk;
+pub use header::MOST_LINES;
 pub use header::MOST_LINKS;
 pub use header::MOST_TURNS;
 pub use numbers::number_at;

@@ -21,10 +21,12 @@ mod tests;
 mod tracing;
 
 pub use arriving::best_into;
+pub use figures::ROUTE_ROOM;
 pub use judging::labels_true;
 pub use labels::label_at;
 pub use labels::same_label;
 pub use offered::check;
+pub use offered::link_line;
 pub use offered::number_at;
 pub use offered::seconds_good;
 pub use offered::write_walk;

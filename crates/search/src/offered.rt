@@ -1,13 +1,15 @@
 // What the layers above need of the day book, offered on.
 use book::Checked;
 use book::Counts;
+use book::LinkNumber;
 use book::TurnNumber;
 ghost use mathlib.Core.Path.{_≡_};
 ghost use Prim.Native.Nat.{_+_, _<_};
 ghost use lib.ListN.{length};
 ghost use Rattle.book.specs.declared.Checked.the-variants.{Good};
 ghost use Rattle.book.specs.Number.{numberAt};
-ghost use Rattle.book.specs.Entries.{secondsGood};
+ghost use Rattle.book.specs.Tables.{linkTable};
+ghost use Rattle.book.specs.Entries.{linkLine, secondsGood};
 ghost use Rattle.book.specs.Check.{checkOf};
 ghost use Rattle.book.specs.Changes.{withWalk};
 
@@ -22,6 +24,13 @@ pub fn number_at(bytes: &[u8], at: usize) -> u16
     ensures { λ r. ⌜ r ≡ numberAt (now (bytes .entry)) at ⌝ }
 {
     walk::number_at(bytes, at)
+}
+
+pub fn link_line(book: &[u8], counts: Counts, link: LinkNumber) -> u16
+    requires { ⌜ (checkOf (now book) ≡ Good counts) × (link .0 < counts .links) ⌝ }
+    ensures { λ r. ⌜ r ≡ linkLine (linkTable (now (book .entry)) counts) (link .0) ⌝ }
+{
+    walk::link_line(book, counts, link)
 }
 
 pub fn seconds_good(seconds: u16) -> bool

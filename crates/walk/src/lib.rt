@@ -17,6 +17,7 @@ pub use offered::carry;
 pub use offered::check;
 pub use offered::counts_in;
 pub use offered::link_from;
+pub use offered::link_line;
 pub use offered::link_to;
 pub use offered::number_at;
 pub use offered::seconds_good;

@@ -11,7 +11,7 @@ ghost use lib.ListN.{length};
 ghost use Rattle.book.specs.declared.Checked.the-variants.{Good};
 ghost use Rattle.book.specs.Number.{numberAt};
 ghost use Rattle.book.specs.Tables.{linkTable, turnTable};
-ghost use Rattle.book.specs.Entries.{linkFrom, linkTo, turnFirst, turnSecond, secondsGood};
+ghost use Rattle.book.specs.Entries.{linkFrom, linkTo, linkLine, turnFirst, turnSecond, secondsGood};
 ghost use Rattle.book.specs.Check.{checkOf};
 ghost use Rattle.book.specs.Changes.{withWalk};
 
@@ -59,6 +59,13 @@ pub fn link_to(book: &[u8], counts: Counts, link: LinkNumber) -> NodeNumber
     ensures { λ r. ⌜ r .0 ≡ linkTo (linkTable (now (book .entry)) counts) (link .0) ⌝ }
 {
     book::link_to(book, counts, link)
+}
+
+pub fn link_line(book: &[u8], counts: Counts, link: LinkNumber) -> u16
+    requires { ⌜ (checkOf (now book) ≡ Good counts) × (link .0 < counts .links) ⌝ }
+    ensures { λ r. ⌜ r ≡ linkLine (linkTable (now (book .entry)) counts) (link .0) ⌝ }
+{
+    book::link_line(book, counts, link)
 }
 
 pub fn turn_first(book: &[u8], counts: Counts, turn: TurnNumber) -> LinkNumber

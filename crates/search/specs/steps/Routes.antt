@@ -8,6 +8,10 @@ use Rattle.book.specs.Check.{checkOf}
 use Rattle.walk.specs.View.{viewOf}
 use Rattle.walk.specs.Labels.{Table, TrueLabels}
 
+-- a route buffer that serves every route
+abbrev pub routeRoom : ℕ
+routeRoom = 4097
+
 -- a good book, and true labels from r whose turns have these backs
 pub record RouteFrom (book : List ℕ) (counts : Counts) (r : ℕ) (turn-back : List ℕ) (links : Table) : Type 0 where
   pub checked : checkOf book ≡ Good counts

@@ -1,0 +1,53 @@
+-- One test computes every ride's fare, and tells which are the right ones and which are not.
+use mathlib.Core.Path.{_≡_, refl, ap}
+use mathlib.Core.List.{List, [], _∷_, map}
+use mathlib.Core.Bool.{Bool, true, not, _&&_}
+use lib.Dec.{eqb}
+use borrow.Author.Tests.{eqb-true, eqb-false, not-true}
+use Rattle.book.specs.FirstBad.{firstBadFrom}
+use Rattle.book.proofs.Limits.{both}
+use Rattle.walk.specs.Walks.{all}
+use Rattle.fare.specs.declared.Won.{Won}
+use Rattle.fare.specs.Amounts.{startedSteps, inWon}
+use Rattle.fare.specs.Fare.{fareOf}
+use Rattle.fare.specs.Examples.{Ride, faresIn, Costs, Every, none-left, and, rides}
+use Rattle.fare.specs.RefusedFares.{Wrong, Refuses, wrongs}
+
+every : {Row : Type 0} (Holds : Row → Type 0) (test : Row → Bool) → ((row : Row) → test row ≡ true → Holds row) → (rows : List Row) → all (map test rows) ≡ true → Every Holds rows
+every Holds test tells [] h = none-left
+every Holds test tells (row ∷ rest) h =
+    let (here, later) = both (test row) (all (map test rest)) h in
+    and (tells row here) (every Holds test tells rest later)
+
+abbrev fare : Ride → Won
+fare ride = fareOf (faresIn (ride .network)) (ride .links)
+
+costs : Ride → Bool
+costs ride = eqb (fare ride .0) (ride .won)
+
+costs-so : (ride : Ride) → costs ride ≡ true → Costs ride
+unfolding costs
+costs-so ride h = ap inWon (eqb-true (fare ride .0) (ride .won) h)
+
+refuses : Wrong → Bool
+refuses wrong = costs (wrong .ride) && not (eqb (fare (wrong .ride) .0) (wrong .claimed))
+
+refuses-so : (wrong : Wrong) → refuses wrong ≡ true → Refuses wrong
+unfolding refuses
+refuses-so wrong h =
+    let (right, other) = both (costs (wrong .ride)) (not (eqb (fare (wrong .ride) .0) (wrong .claimed))) h in
+    (costs-so (wrong .ride) right, λ e. eqb-false (fare (wrong .ride) .0) (wrong .claimed) (not-true _ other) (ap (λ (won : Won). won .0) e))
+
+all-cost : all (map costs rides) ≡ true
+unfolding costs fareOf startedSteps firstBadFrom
+all-cost = refl
+
+all-refused : all (map refuses wrongs) ≡ true
+unfolding refuses costs fareOf startedSteps firstBadFrom
+all-refused = refl
+
+pub rides-cost : Every Costs rides
+rides-cost = every Costs costs costs-so rides all-cost
+
+pub wrongs-refused : Every Refuses wrongs
+wrongs-refused = every Refuses refuses refuses-so wrongs all-refused

@@ -1,0 +1,9 @@
+pub mod ExamplesHold
+pub mod Steps
+pub mod Dearer
+pub mod GoodFares
+pub mod FareLaws
+pub mod FurtherLink
+pub mod Copied
+pub mod FoundLaws
+pub mod Determined

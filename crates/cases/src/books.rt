@@ -13,6 +13,16 @@ pub fn put(bytes: &mut [u8], at: usize, value: u16) -> usize {
     at + 2
 }
 
+pub fn put_all(bytes: &mut [u8], at: usize, numbers: &[u16]) -> usize {
+    let mut at = at;
+    let mut passed = 0;
+    'numbers: while passed < numbers.len() {
+        at = put(bytes, at, numbers[passed]);
+        passed += 1;
+    }
+    at
+}
+
 // The letters `LTB`.
 pub fn put_mark(bytes: &mut [u8]) -> usize {
     let length = bytes.len();

@@ -74,6 +74,15 @@ fn widened(byte: u8) -> usize
     byte as usize
 }
 
+pub fn at_most(count: usize, most: usize) -> usize
+    ensures { λ r. ⌜ r ≤ most ⌝ }
+{
+    if most < count {
+        return most;
+    }
+    count
+}
+
 // A count of a book's header, up to the most that is asked for.
 pub fn count_at(book: &[u8], at: usize, most: usize) -> usize
     ensures { λ r. ⌜ r ≤ most ⌝ }
@@ -85,9 +94,5 @@ pub fn count_at(book: &[u8], at: usize, most: usize) -> usize
     if length - at < 2 {
         return 0;
     }
-    let count = widened(book[at]) + 256 * widened(book[at + 1]);
-    if most < count {
-        return most;
-    }
-    count
+    at_most(widened(book[at]) + 256 * widened(book[at + 1]), most)
 }

@@ -2,6 +2,7 @@
 mod books;
 mod chain;
 mod changing;
+mod kept;
 mod labelling;
 mod largest;
 mod lines;
@@ -9,6 +10,7 @@ mod routes;
 
 pub use books::book_a;
 pub use books::put;
+pub use books::put_all;
 pub use books::put_book_a;
 pub use books::put_header;
 pub use books::put_link;
@@ -27,6 +29,10 @@ pub use changing::TURN_COST;
 pub use changing::TURN_LINKS;
 pub use changing::change_table;
 pub use changing::lent;
+pub use kept::MARK;
+pub use kept::marks_kept;
+pub use kept::say_kept;
+pub use labelling::at_most;
 pub use labelling::count_at;
 pub use labelling::put_labels;
 pub use largest::LARGEST_BYTES;

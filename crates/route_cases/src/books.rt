@@ -1,18 +1,9 @@
 // Small books whose routes are settled by the order of walks.
 use cases::book_a;
 use cases::put;
+use cases::put_all;
 use cases::put_header;
 use cases::put_link;
-
-fn put_all(bytes: &mut [u8], at: usize, numbers: &[u16]) -> usize {
-    let mut at = at;
-    let mut passed = 0;
-    'numbers: while passed < numbers.len() {
-        at = put(bytes, at, numbers[passed]);
-        passed += 1;
-    }
-    at
-}
 
 // Two equal links from 0 to 1, two from 1 to 2, and one on to 3.
 fn put_equal_links(bytes: &mut [u8], at: usize) -> usize {

@@ -3,7 +3,6 @@ mod books;
 mod done;
 mod refusals;
 mod running;
-mod saying;
 mod untrue;
 
 use cases::say;

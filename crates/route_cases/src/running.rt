@@ -1,26 +1,26 @@
 // One case: labels from a search, perhaps changed, a route asked with them, and the line about it.
-use super::saying::MARK;
-use super::saying::marks_kept;
-use super::saying::say_kept;
 use book::NodeNumber;
 use cases::Change;
 use cases::LINK_BACK;
 use cases::LINK_COST;
 use cases::LINK_LINKS;
+use cases::MARK;
 use cases::TURN_BACK;
 use cases::TURN_COST;
 use cases::TURN_LINKS;
+use cases::at_most;
 use cases::count_at;
 use cases::lent;
+use cases::marks_kept;
 use cases::put_labels;
 use cases::say_expected;
 use cases::say_expected_refusal;
+use cases::say_kept;
 use cases::say_name;
 use cases::say_route;
 use search::RouteFigures;
 use search::route;
 use search::route_given_back;
-ghost use Prim.Native.Nat.{_≤_};
 
 // One more than the most turns and links of a book here.
 const ROOM: usize = 17;
@@ -84,15 +84,6 @@ fn ask_in(
     CHANGED
 }
 
-fn within(length: usize) -> usize
-    ensures { λ r. ⌜ r ≤ 17 ⌝ }
-{
-    if ROOM < length {
-        return ROOM;
-    }
-    length
-}
-
 // The same with a route buffer of its own.
 fn ask_marked(
     book: &[u8],
@@ -105,7 +96,7 @@ fn ask_marked(
     link_back: &[u16],
 ) -> u64 {
     let mut links = [MARK; ROOM];
-    let room = within(asked.room);
+    let room = at_most(asked.room, ROOM);
     ask_in(
         book,
         asked,

@@ -5,8 +5,8 @@ use borrow.Author.Needs.{needs}
 use Rattle.route_cases.proofs.running.ask_marked.Statement.{statement}
 use Rattle.route_cases.proofs.running.ask_marked.Tie as tie
 
-within-requires : tie.Need-within-requires
-within-requires c κs = search needs
+at-most-requires : tie.Need-at-most-requires
+at-most-requires c κs = search needs
 
 array-borrow-prefix-links : tie.Need-array-borrow-prefix-links
 array-borrow-prefix-links c = search needs
@@ -24,7 +24,7 @@ pub ask-marked-spec : {M : Type 1} → statement M
 ask-marked-spec =
     tie.close
     (tie.spec
-    within-requires
+    at-most-requires
     array-borrow-prefix-links
     slice-aggregate-ask-in
     ask-in-requires

@@ -2,8 +2,8 @@
 use Prim.Native.Nat.{_-_, _≤_}
 use lib.ListN.{length}
 use borrow.Author.Needs.{needs}
-use Rattle.route_cases.proofs.saying.marks_kept.Statement.{statement}
-use Rattle.route_cases.proofs.saying.marks_kept.Tie as tie
+use Rattle.cases.proofs.kept.marks_kept.Statement.{statement}
+use Rattle.cases.proofs.kept.marks_kept.Tie as tie
 
 abbrev Inv-marks : tie.InvT-marks
 Inv-marks route from kept₀ at₀ kept at = from ≤ at

@@ -1,5 +1,5 @@
-// Whether everything that a route does not write keeps its content.
-use cases::say;
+// Whether everything that a question does not write keeps its content.
+use super::lines::say;
 
 // What every number of the route buffer holds beforehand.
 pub const MARK: u16 = 777;

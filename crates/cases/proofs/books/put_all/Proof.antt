@@ -3,8 +3,8 @@ use Prim.Native.Nat.{_-_}
 use lib.ListN.{length}
 use mathlib.Core.Path.{_≡_}
 use borrow.Author.Needs.{needs}
-use Rattle.route_cases.proofs.books.put_all.Statement.{statement}
-use Rattle.route_cases.proofs.books.put_all.Tie as tie
+use Rattle.cases.proofs.books.put_all.Statement.{statement}
+use Rattle.cases.proofs.books.put_all.Tie as tie
 
 abbrev Inv-numbers : tie.InvT-numbers
 Inv-numbers bytes₀ at numbers at₀ passed₀ bytes at' passed = length bytes ≡ length bytes₀

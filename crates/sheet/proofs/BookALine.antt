@@ -13,17 +13,17 @@ use Rattle.search.specs.Tests.{nodeTest, bothNodes}
 use Rattle.sheet.specs.Line.{decimalIn, decimal, further, line}
 use Rattle.sheet.specs.Sheet.{Planned, done, Says, asked}
 
-abbrev linksA : List ℕ
+abbrev pub linksA : List ℕ
 linksA = 0 ∷ 1 ∷ 3 ∷ 1 ∷ 2 ∷ []
 
 abbrev fieldsA : List ℕ
 fieldsA = 0 ∷ 342 ∷ 5 ∷ linksA
 
 -- P3
-route-a : RouteIs (viewA []) 3 342 linksA
+pub route-a : RouteIs (viewA []) 3 342 linksA
 route-a = cases-hold .1 .1 .0 .1 .0
 
-nodes-a : bothNodes bookA 0 3 ≡ Good countsA
+pub nodes-a : bothNodes bookA 0 3 ≡ Good countsA
 unfolding nodeTest
 nodes-a = rw (book-a-good)
 

@@ -12,18 +12,17 @@ use Rattle.walk.proofs.GoodView.{good-view}
 use Rattle.walk.proofs.LabelLaws.{route-one}
 use Rattle.search.specs.Tests.{bothNodes}
 use Rattle.sheet.specs.declared.Sheeted.{Sheeted}
-use Rattle.sheet.specs.Line.{line}
 use Rattle.sheet.specs.Sheet.{originOf, destinationOf, bookOf, Planned, refused, no-walk, done, Says, short, asked, Sheet, no-room, printed}
 use Rattle.sheet.proofs.TestLaws.{tests-passed}
 
 module _ (book : List ℕ) (r s : ℕ) where
-  counts-one : (counts other : Counts) → bothNodes book r s ≡ Good counts → bothNodes book r s ≡ Good other → other ≡ counts
+  pub counts-one : (counts other : Counts) → bothNodes book r s ≡ Good counts → bothNodes book r s ≡ Good other → other ≡ counts
   counts-one counts other a b = cc
 
-  abbrev RouteIn : List ℕ → Counts → Type 0
+  abbrev pub RouteIn : List ℕ → Counts → Type 0
   RouteIn links counts = Route (viewOf book counts) r s links
 
-  one-route : (counts : Counts) → bothNodes book r s ≡ Good counts → (links other : List ℕ) → RouteIn links counts → RouteIn other counts → links ≡ other
+  pub one-route : (counts : Counts) → bothNodes book r s ≡ Good counts → (links other : List ℕ) → RouteIn links counts → RouteIn other counts → links ≡ other
   one-route counts h links other a b = route-one (viewOf book counts) (good-view book counts (walksOf book counts) (tests-passed book r s counts h)) r s links other a b
 
   -- one way through one book has one line

@@ -6,6 +6,14 @@ pub mod Longest
 pub mod NeverFifteen
 pub mod Determined
 pub mod BookALine
+pub mod Finding
 pub mod Plans
 pub mod OverLong
 pub mod Printed
+pub mod FareTables
+pub mod FareText
+pub mod FarePlans
+pub mod LongestText
+pub mod FareDetermined
+pub mod FareOverLong
+pub mod BookAFare

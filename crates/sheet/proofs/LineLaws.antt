@@ -46,6 +46,10 @@ one-stored links k h e before stored = rw (further-taken links k h, ← e) (then
 pub all-stored : {text after : List ℕ} {at next : ℕ} (links : List ℕ) (k : ℕ) → length links ≤ k → Stored text at (further (take k links)) after next → Stored text at (further links) after next
 all-stored links k h stored = rw (take-all k links h) at stored
 
+pub line-one : (n : ℕ) → line (n ∷ []) ≡ decimal n ++ (newline ∷ [])
+unfolding line further
+line-one n = ap (λ (bytes : List ℕ). bytes ++ (newline ∷ [])) (append-nil (decimal n))
+
 pub line-two : (first second : ℕ) → line (first ∷ second ∷ []) ≡ decimal first ++ further (second ∷ []) ++ (newline ∷ [])
 unfolding line
 line-two first second = refl
@@ -60,6 +64,9 @@ line-more first second third rest =
     ∙ sym (append-assoc (decimal first ++ further (second ∷ [])) (further (third ∷ [])) (further rest)))
 
 -- the same of lengths
+pub length-one : (n : ℕ) → length (line (n ∷ [])) ≡ length (decimal n) + 1
+length-one n = rw (line-one n) (length-append (decimal n) (newline ∷ []))
+
 pub length-two : (first second : ℕ) → length (line (first ∷ second ∷ [])) ≡ length (decimal first) + length (further (second ∷ [])) + 1
 length-two first second =
     rw (line-two first second, length-append (decimal first ++ further (second ∷ [])) (newline ∷ []), length-append (decimal first) (further (second ∷ []))) refl

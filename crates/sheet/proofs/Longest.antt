@@ -1,6 +1,6 @@
 -- No line is longer than 20,502 bytes: a route has at most 4,097 links, each below 2,048, and costs at most 191,728,800.
 use Prim.Native.Nat.{ℕ, suc, _*_, _^_, _≤_, _<_}
-use mathlib.Core.Path.{_≡_, refl, ap}
+use mathlib.Core.Path.{_≡_, ap}
 use mathlib.Core.List.{List, [], _∷_, map}
 use mathlib.Core.Bool.{true}
 use native.Mathlib.Omega.{arith}
@@ -12,14 +12,12 @@ use Rattle.book.specs.declared.Checked.the-variants.{Good}
 use Rattle.book.specs.Check.{checkOf}
 use Rattle.book.proofs.Limits.{both}
 use Rattle.book.proofs.GoodBook.{good-book}
-use Rattle.walk.specs.View.{View, viewOf, walksOf}
-use Rattle.walk.specs.Walks.{all, permitted, costOf}
-use Rattle.walk.specs.Labels.{NodeWalk, stays, enters, Route}
-use Rattle.walk.proofs.GoodView.{good-view}
-use Rattle.walk.proofs.LimitedView.{limited-view}
-use Rattle.walk.proofs.ChosenLaws.{route-bounded}
+use Rattle.walk.specs.View.{viewOf}
+use Rattle.walk.specs.Walks.{all, costOf}
+use Rattle.walk.specs.Labels.{Route}
+use Rattle.search.proofs.RouteRoom.{room-serves, links-exist}
 use Rattle.sheet.specs.Line.{decimal, further, line}
-use Rattle.sheet.specs.Sheet.{originOf, destinationOf, bookOf, Planned, refused, no-walk, done, Says, short, asked, longestLine, routeRoom}
+use Rattle.sheet.specs.Sheet.{originOf, destinationOf, bookOf, Planned, refused, no-walk, done, Says, short, asked, longestLine}
 use Rattle.sheet.proofs.DigitLaws.{length-below}
 use Rattle.sheet.proofs.LineLaws.{further-one, length-two, length-many}
 use Rattle.sheet.proofs.TestLaws.{tests-limited, tests-passed}
@@ -27,17 +25,6 @@ use Rattle.sheet.proofs.TestLaws.{tests-limited, tests-passed}
 -- a field that is not the first has a blank and its digits
 further-below : (places n : ℕ) → n < 10 ^ suc places → length (further (n ∷ [])) ≤ suc (suc places)
 further-below places n h = omega (arith, ap length (further-one n), length-below places n h)
-
--- every link of a permitted walk exists
-links-exist : (U : View) (r s : ℕ) (links : List ℕ) → NodeWalk U r s links → all (map (λ l. ltb l (U .links)) links) ≡ true
-unfolding permitted
-links-exist U r s links (stays e h) = rw e refl
-links-exist U r s links (enters l walk h) =
-    let (rest, follow) = both _ _ (walk .goes) in
-    let (rest, opened) = both _ _ rest in
-    let (rest, listed) = both _ _ rest in
-    let (rest, meet) = both _ _ rest in
-    both _ _ rest .0
 
 -- links of four digits take five bytes each
 links-bounded : (count : ℕ) → count ≤ 10 ^ 4 → (links : List ℕ) → all (map (λ l. ltb l count) links) ≡ true → length (further links) ≤ 5 * length links
@@ -48,10 +35,6 @@ links-bounded count h (l ∷ rest) e =
     omega (arith, length-append (decimal l) (further rest), length-below 3 l (omega (arith, ltb-true l count here)), links-bounded count h rest later)
 
 module _ (book : List ℕ) (r s : ℕ) (counts : Counts) (checked : checkOf book ≡ Good counts) (links : List ℕ) (route : Route (viewOf book counts) r s links) where
-  -- the sheet's own route room serves
-  pub room-serves : (length links ≤ routeRoom) × (costOf (viewOf book counts) links ≤ 191728800)
-  room-serves = route-bounded (viewOf book counts) (good-view book counts (walksOf book counts) checked) r (limited-view book counts checked) s links route
-
   links-room : length (further links) ≤ 5 * length links
   links-room =
       let few = good-book book counts checked .limited .links in
@@ -59,13 +42,13 @@ module _ (book : List ℕ) (r s : ℕ) (counts : Counts) (checked : checkOf book
 
   route-line : length (line (0 ∷ costOf (viewOf book counts) links ∷ length links ∷ links)) ≤ longestLine
   route-line =
-      let (few, cheap) = room-serves in
+      let (few, cheap) = room-serves book r s counts checked links route in
       let nought = length-below 0 0 (omega arith) in
       let figure = further-below 8 (costOf (viewOf book counts) links) (omega arith) in
       let count = further-below 3 (length links) (omega arith) in
       omega (arith, length-many 0 (costOf (viewOf book counts) links) (length links) links, links-room)
 
-pub refusal-line : (number place : ℕ) → number ≤ 14 → place ≤ 4096 → length (line (number ∷ place ∷ [])) ≤ longestLine
+pub refusal-line : (number place : ℕ) → number ≤ 17 → place ≤ 4096 → length (line (number ∷ place ∷ [])) ≤ longestLine
 refusal-line number place n p = omega (arith, length-two number place, length-below 1 number (omega arith), further-below 3 place (omega arith))
 
 pub longest-plan : (book : List ℕ) (r s : ℕ) (fields : List ℕ) → Planned book r s fields → length (line fields) ≤ longestLine

@@ -6,14 +6,18 @@ use native.Mathlib.Omega.{arith}
 use native.Mathlib.Decide.{decLt}
 use lib.ListN.{length, getD, take, length-drop}
 use lib.Seq.{length-take-le, take-all, getD-take, getD-drop}
-use Rattle.book.specs.declared.Refusal.{Refusal}
-use Rattle.book.specs.declared.Checked.the-variants.{Refused}
 use Rattle.book.specs.Header.{headerBytes}
-use Rattle.book.specs.Check.{checkOf}
 use Rattle.book.proofs.LargestBook.{largestBook, answered, long-refused, long-same}
 use Rattle.sheet.specs.Sheet.{beforeBook, originOf, destinationOf, bookOf, Planned, Says, short, asked}
 use Rattle.sheet.proofs.Determined.{plan-one}
 use Rattle.sheet.proofs.Plans.{refusalFields, book-refused}
+
+-- two books that are longer than the largest and have one header have one plan
+module _ (book other : List ℕ) (same : (k : ℕ) → k < headerBytes → getD book k 0 ≡ getD other k 0) (long : largestBook < length book) (long-other : largestBook < length other) where
+  pub long-planned : (r s from to : ℕ) (fields : List ℕ) → Planned book r s fields → Planned other from to fields
+  long-planned r s from to fields plan =
+      let said : fields ≡ refusalFields (answered book) = plan-one book r s fields (refusalFields (answered book)) plan (book-refused book r s (answered book) (long-refused book long)) in
+      subst (Planned other from to) (sym said) (book-refused other from to (answered book) (sym (long-same book other same long long-other) ∙ long-refused book long))
 
 -- the input is answered by its front, where that is longer than the largest book with the two nodes before it
 module _ (room : ℕ) (enough : largestBook + beforeBook < room) (input : List ℕ) where
@@ -27,28 +31,10 @@ module _ (room : ℕ) (enough : largestBook + beforeBook < room) (input : List �
     same-header : (k : ℕ) → k < headerBytes → getD (bookOf front) k 0 ≡ getD (bookOf input) k 0
     same-header k h = getD-drop beforeBook front k 0 ∙ getD-take room input (beforeBook + k) 0 (omega arith) ∙ sym (getD-drop beforeBook input k 0)
 
-    front-long : largestBook < length (bookOf front)
-    front-long = omega (arith, length-drop beforeBook front, front-length)
-
-    input-long : largestBook < length (bookOf input)
-    input-long = omega (arith, length-drop beforeBook input)
-
-    found : Refusal
-    found = answered (bookOf front)
-
-    whole-refused : checkOf (bookOf input) ≡ Refused found
-    unfolding found
-    whole-refused = sym (long-same (bookOf front) (bookOf input) same-header front-long input-long) ∙ long-refused (bookOf front) front-long
-
-    front-refused : checkOf (bookOf front) ≡ Refused found
-    unfolding found
-    front-refused = long-refused (bookOf front) front-long
-
     past-says : (fields : List ℕ) → Says front fields → Says input fields
     past-says fields (short h f) = absurd (omega (arith, front-length))
     past-says fields (asked h plan) =
-        let said : fields ≡ refusalFields found = plan-one (bookOf front) (originOf front) (destinationOf front) fields (refusalFields found) plan (book-refused (bookOf front) (originOf front) (destinationOf front) found front-refused) in
-        asked (omega arith) (subst (Planned (bookOf input) (originOf input) (destinationOf input)) (sym said) (book-refused (bookOf input) (originOf input) (destinationOf input) found whole-refused))
+        asked (omega arith) (long-planned (bookOf front) (bookOf input) same-header (omega (arith, length-drop beforeBook front, front-length)) (omega (arith, length-drop beforeBook input)) (originOf front) (destinationOf front) (originOf input) (destinationOf input) fields plan)
 
   pub front-says : (fields : List ℕ) → Says front fields → Says input fields
   front-says fields says = by (decLt room (length input))

@@ -1,3 +1,4 @@
 pub mod Line
 pub mod Sheet
+pub mod FareSheet
 pub mod steps

@@ -43,10 +43,6 @@ pub data Says (input fields : List ℕ) : Type 0 where
 abbrev pub longestLine : ℕ
 longestLine = 20502
 
--- the printer's own route room
-abbrev pub routeRoom : ℕ
-routeRoom = 4097
-
 -- what a sheet answers, and leaves in the text that it was lent: a text shorter than the longest line is left as it was
 pub data Sheet (input text : List ℕ) (answer : Sheeted) (after : List ℕ) : Type 0 where
   no-room : length text < longestLine → answer ≡ NoRoom → after ≡ text → Sheet input text answer after

@@ -1,2 +1,4 @@
 pub mod Storing
+pub mod Planning
 pub mod Asking
+pub mod Faring

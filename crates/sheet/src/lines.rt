@@ -48,6 +48,15 @@ pub fn put_refusal(text: &mut [u8], number: u8, place: usize) -> usize
     put_byte(text, at, NEWLINE)
 }
 
+// A line of one number, after what stands before `at`.
+pub fn put_number(text: &mut [u8], at: usize, n: usize) -> usize
+    requires { ⌜ at + length (line (n ∷ [])) ≤ length (now text) ⌝ }
+    ensures { λ r. ⌜ Stored (now (text .entry)) at (line (n ∷ [])) (now (text .exit)) r ⌝ }
+{
+    let next = put_decimal(text, at, n);
+    put_byte(text, next, NEWLINE)
+}
+
 pub fn put_route(text: &mut [u8], cost: u32, links: &[u16]) -> usize
     requires { ⌜ length (line (0 ∷ cost ∷ length (now links) ∷ now links)) ≤ length (now text) ⌝ }
     ensures { λ r. ⌜ (now (text .exit) ≡ line (0 ∷ cost ∷ length (now (links .entry)) ∷ now (links .entry)) ++ drop (length (line (0 ∷ cost ∷ length (now (links .entry)) ∷ now (links .entry)))) (now (text .entry))) × (r ≡ length (line (0 ∷ cost ∷ length (now (links .entry)) ∷ now (links .entry)))) ⌝ }

@@ -2,35 +2,38 @@
 use super::running::put_nodes;
 use super::running::run_front_beyond;
 use cases::say;
+ghost use Prim.Native.Nat.{_≤_};
 
-// What a file's book takes of the input, with the nodes before it.
-fn with_nodes(length: usize) -> usize {
-    if length <= 65532 {
-        return length + 4;
+fn joined(at: usize, read: usize, end: usize) -> usize
+    requires { ⌜ at ≤ end ⌝ }
+{
+    if end - at < read {
+        return end;
     }
-    65536
+    at + read
 }
 
-fn read_book(file: i32, input: &mut [u8]) -> usize {
-    let from = 4;
+// A file's bytes from this place on; answers the place after them.
+pub fn append(name: &[u8], input: &mut [u8], at: usize) -> usize {
     let end = input.len();
-    if end < from {
-        return 0;
+    if end < at {
+        return end;
     }
-    with_nodes(io::read_full(file, &mut input[from..end]))
-}
-
-fn run_file(name: &[u8], origin: u16, destination: u16, expected: &[u8]) {
     let file = os::open_read(name);
     if file < 0 {
         say(name);
         say(b" cannot be opened\n");
-        return;
+        return at;
     }
+    let read = io::read_full(file, &mut input[at..end]);
+    libc::close(file);
+    joined(at, read, end)
+}
+
+fn run_file(name: &[u8], origin: u16, destination: u16, expected: &[u8]) {
     let mut input = [0u8; 65536];
     put_nodes(&mut input, origin, destination);
-    let length = read_book(file, &mut input);
-    libc::close(file);
+    let length = append(name, &mut input, 4);
     run_front_beyond(name, &input, length, expected);
 }
 

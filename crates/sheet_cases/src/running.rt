@@ -51,10 +51,9 @@ fn say_awaited(document: bool, expected: &[u8]) {
     say_expected_beyond(expected);
 }
 
-// The case and what is expected, then the sheet's own line.
-fn run_in(name: &[u8], input: &[u8], text: &mut [u8], document: bool, expected: &[u8]) {
-    say_name(name);
-    match sheet(input, text) {
+// What is left of the text and what is expected, then the sheet's own lines.
+pub fn say_sheet(answer: Sheeted, text: &[u8], document: bool, expected: &[u8]) {
+    match answer {
         Sheeted::NoRoom => {
             say(b"no room, ");
             say_kept(text, 0);
@@ -66,6 +65,12 @@ fn run_in(name: &[u8], input: &[u8], text: &mut [u8], document: bool, expected: 
             say_front(text, end);
         }
     }
+}
+
+fn run_in(name: &[u8], input: &[u8], text: &mut [u8], document: bool, expected: &[u8]) {
+    say_name(name);
+    let answer = sheet(input, text);
+    say_sheet(answer, text, document, expected);
 }
 
 pub fn run(name: &[u8], input: &[u8], expected: &[u8]) {

@@ -1,92 +1,73 @@
--- The sheet's own buffers, cut to the book's counts, have their lengths.
-use Prim.Native.Nat.{_≤_}
-use lib.Seq.{length-take-le}
+-- What the plan found is what is printed, and its line has room.
+use denote.Ref.{now}
 use mathlib.Core.Path.{sym}
 use native.Mathlib.Omega.{arith}
-use Rattle.book.proofs.GoodBook.{good-book}
+use Rattle.sheet.specs.Sheet.{Planned}
+use Rattle.sheet.proofs.Longest.{longest-plan}
+use Rattle.sheet.proofs.Plans.{refusalFields, refusal-planned, Led, route-led, led-planned}
 use borrow.Author.Needs.{needs}
 use Rattle.sheet.proofs.asking.print_plan.Statement.{statement}
 use Rattle.sheet.proofs.asking.print_plan.Tie as tie
 
-few : (c : tie.Start) → (c .args .counts .turns ≤ 4096) × (c .args .counts .links ≤ 2048)
-few c =
-    let limited = good-book _ _ (c .pre .0) .limited in
-    (limited .turns, limited .links)
+planned : (c : tie.After-found) → Planned (now (c .before .before .before .before .before .before .before .args .book)) (c .before .before .before .before .before .before .before .args .origin .0) (c .before .before .before .before .before .before .before .args .destination .0) (refusalFields (c .found .given .0 .0))
+planned c = refusal-planned _ _ _ _ _ (c .before .before .before .plan .ensures) _ (c .found .given .1)
 
-array-borrow-prefix-turn-cost : tie.Need-array-borrow-prefix-turn-cost
-array-borrow-prefix-turn-cost c = few (c .before .before) .0
+led : (c : tie.After-cost) → Led (now (c .before .before .before .before .before .before .before .args .book)) (c .before .before .before .before .before .before .before .args .origin .0) (c .before .before .before .before .before .before .before .args .destination .0) (c .before .before .before .plan .last .1 .1 .1 .1 .0) (c .cost .given .0 .0) (c .cost .given .0 .1 .0)
+led c = route-led _ _ _ _ _ _ _ (c .before .before .before .plan .ensures) (c .cost .given .1)
 
-slice-aggregate-print-search : tie.Need-slice-aggregate-print-search
-slice-aggregate-print-search c = sym (length-take-le _ _ (few (c .before .before .before) .0))
+slice-aggregate-plan : tie.Need-slice-aggregate-plan
+slice-aggregate-plan c = search needs
 
-array-borrow-prefix-turn-links : tie.Need-array-borrow-prefix-turn-links
-array-borrow-prefix-turn-links c = few (c .before .before .before) .0
+plan-requires : tie.Need-plan-requires
+plan-requires c κs = search needs
 
-slice-aggregate-print-search-2 : tie.Need-slice-aggregate-print-search-2
-slice-aggregate-print-search-2 c = sym (length-take-le _ _ (few (c .before .before .before .before) .0))
+enum-known-found : tie.Need-enum-known-found
+enum-known-found c = search needs
 
-array-borrow-prefix-turn-back : tie.Need-array-borrow-prefix-turn-back
-array-borrow-prefix-turn-back c = few (c .before .before .before .before) .0
+put-refusal-requires : tie.Need-put-refusal-requires
+put-refusal-requires c κs = omega (arith, longest-plan _ _ _ _ (planned (c .before .before)), c .before .before .before .before .before .before .before .before .before .pre .1)
 
-slice-aggregate-print-search-3 : tie.Need-slice-aggregate-print-search-3
-slice-aggregate-print-search-3 c = sym (length-take-le _ _ (few (c .before .before .before .before .before) .0))
+enum-known-cost : tie.Need-enum-known-cost
+enum-known-cost c = search needs
 
-array-borrow-prefix-link-cost : tie.Need-array-borrow-prefix-link-cost
-array-borrow-prefix-link-cost c = few (c .before .before .before .before .before) .1
+cast-links : tie.Need-cast-links
+cast-links c = search needs
 
-slice-aggregate-print-search-4 : tie.Need-slice-aggregate-print-search-4
-slice-aggregate-print-search-4 c = sym (length-take-le _ _ (few (c .before .before .before .before .before .before) .1))
+array-share-prefix-links : tie.Need-array-share-prefix-links
+array-share-prefix-links c = led (c .before .before) .within
 
-array-borrow-prefix-link-links : tie.Need-array-borrow-prefix-link-links
-array-borrow-prefix-link-links c = few (c .before .before .before .before .before .before) .1
+slice-aggregate-put-route : tie.Need-slice-aggregate-put-route
+slice-aggregate-put-route c = sym (led (c .before .before .before) .front)
 
-slice-aggregate-print-search-5 : tie.Need-slice-aggregate-print-search-5
-slice-aggregate-print-search-5 c = sym (length-take-le _ _ (few (c .before .before .before .before .before .before .before) .1))
-
-array-borrow-prefix-link-back : tie.Need-array-borrow-prefix-link-back
-array-borrow-prefix-link-back c = few (c .before .before .before .before .before .before .before) .1
-
-slice-aggregate-print-search-6 : tie.Need-slice-aggregate-print-search-6
-slice-aggregate-print-search-6 c = sym (length-take-le _ _ (few (c .before .before .before .before .before .before .before .before) .1))
-
-slice-aggregate-print-search-7 : tie.Need-slice-aggregate-print-search-7
-slice-aggregate-print-search-7 c = search needs
-
-print-search-requires : tie.Need-print-search-requires
-print-search-requires c κs =
-    let start = c .before .before .before .before .before .before .before .before .before .before in (
-      record {
-        counts = start .args .counts;
-        checked = start .pre .0;
-        turns-sized = record { cost = length-take-le _ _ (few start .0); links = length-take-le _ _ (few start .0); back = length-take-le _ _ (few start .0) };
-        links-sized = record { cost = length-take-le _ _ (few start .1); links = length-take-le _ _ (few start .1); back = length-take-le _ _ (few start .1) };
-      },
-      (omega arith, start .pre .1),
-    )
+put-route-requires : tie.Need-put-route-requires
+put-route-requires c κs = omega (arith, longest-plan _ _ _ _ (led-planned (led (c .before .before .before))), c .before .before .before .before .before .before .before .before .before .before .pre .1)
 
 same-length : tie.Need-same-length
 same-length c = search needs
 
 returns : tie.Need-returns
-returns c = search needs
+returns c = record { fields = _; planned = planned (c .before .before .before .before .before); text-after = c .before .before .put-refusal .ensures .0; end-at = c .before .before .put-refusal .ensures .1 }
+
+same-length-2 : tie.Need-same-length-2
+same-length-2 c = search needs
+
+returns-2 : tie.Need-returns-2
+returns-2 c = record { fields = _; planned = led-planned (led (c .before .before .before .before .before .before)); text-after = c .before .before .put-route .ensures .0; end-at = c .before .before .put-route .ensures .1 }
 
 pub print-plan-spec : {M : Type 1} → statement M
 print-plan-spec =
     tie.close
     (tie.spec
-    array-borrow-prefix-turn-cost
-    slice-aggregate-print-search
-    array-borrow-prefix-turn-links
-    slice-aggregate-print-search-2
-    array-borrow-prefix-turn-back
-    slice-aggregate-print-search-3
-    array-borrow-prefix-link-cost
-    slice-aggregate-print-search-4
-    array-borrow-prefix-link-links
-    slice-aggregate-print-search-5
-    array-borrow-prefix-link-back
-    slice-aggregate-print-search-6
-    slice-aggregate-print-search-7
-    print-search-requires
+    slice-aggregate-plan
+    plan-requires
+    enum-known-found
+    put-refusal-requires
+    enum-known-cost
+    cast-links
+    array-share-prefix-links
+    slice-aggregate-put-route
+    put-route-requires
     same-length
-    returns)
+    returns
+    same-length-2
+    returns-2)

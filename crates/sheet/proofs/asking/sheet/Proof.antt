@@ -3,9 +3,10 @@ use denote.Ref.{now}
 use mathlib.Core.Path.{refl, ap}
 use native.Mathlib.Omega.{arith}
 use Rattle.sheet.specs.declared.Sheeted.the-variants.{Line}
-use Rattle.sheet.specs.Sheet.{short, no-room, printed}
+use Rattle.sheet.specs.Sheet.{beforeBook, short, no-room, printed}
 use Rattle.sheet.proofs.Longest.{refusal-line}
-use Rattle.sheet.proofs.Plans.{book-whole, line-said}
+use Rattle.fare.proofs.GoodFares.{rest-whole}
+use Rattle.sheet.proofs.Plans.{line-said}
 use borrow.Author.Needs.{needs}
 use Rattle.sheet.proofs.asking.sheet.Statement.{statement}
 use Rattle.sheet.proofs.asking.sheet.Tie as tie
@@ -44,7 +45,7 @@ same-length-2 : tie.Need-same-length-2
 same-length-2 c = search needs
 
 returns-3 : tie.Need-returns-3
-returns-3 c = line-said _ _ _ _ _ _ _ (c .before .before .before .before .before .before .before .before .if1 .left) (c .before .before .before .before .before .before .before .if2 .left) (book-whole (now (c .before .before .before .before .before .before .before .before .before .before .before .args .input))) (c .before .before .before .before .before .before .number-at .ensures) (c .before .before .before .before .before .number-at2 .ensures) (c .before .before .print-book .ensures)
+returns-3 c = line-said _ _ _ _ _ _ _ (c .before .before .before .before .before .before .before .before .if1 .left) (c .before .before .before .before .before .before .before .if2 .left) (rest-whole beforeBook (now (c .before .before .before .before .before .before .before .before .before .before .before .args .input))) (c .before .before .before .before .before .before .number-at .ensures) (c .before .before .before .before .before .number-at2 .ensures) (c .before .before .print-book .ensures)
 
 pub sheet-spec : {M : Type 1} → statement M
 sheet-spec =

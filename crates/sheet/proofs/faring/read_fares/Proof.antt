@@ -1,0 +1,32 @@
+-- A table of another length is not good, and one of the right length is good where its entries are.
+use denote.Ref.{now}
+use mathlib.Core.Path.{sym, _∙_}
+use native.Mathlib.Omega.{arith}
+use Rattle.walk.proofs.theory.Laws.{clash}
+use Rattle.sheet.proofs.FareTables.{other-bytes, all-entries, whole-good}
+use borrow.Author.Needs.{needs}
+use Rattle.sheet.proofs.faring.read_fares.Statement.{statement}
+use Rattle.sheet.proofs.faring.read_fares.Tie as tie
+
+mul-if1 : tie.Need-mul-if1
+mul-if1 c = search needs
+
+returns : tie.Need-returns
+returns c = record { tells = sym (other-bytes (c .before .before .before .args .counts) (now (c .before .before .before .args .bytes)) (c .before .before .before .args .terms) (λ e. omega arith)); entries = λ e. clash (cc e) }
+
+read-table-requires : tie.Need-read-table-requires
+read-table-requires c κs = search needs
+
+fares-good-requires : tie.Need-fares-good-requires
+fares-good-requires c κs = search needs
+
+same-length : tie.Need-same-length
+same-length c = search needs
+
+returns-2 : tie.Need-returns-2
+returns-2 c = record { tells = c .fares-good .ensures ∙ whole-good (c .before .before .before .before .before .before .before .before .before .args .counts) (now (c .before .before .before .before .before .before .before .before .before .args .bytes)) (c .before .before .before .before .before .before .before .before .before .args .terms) _ (omega arith) _ (c .before .before .before .before .read-table .ensures); entries = λ e. c .before .before .before .before .read-table .ensures ∙ all-entries (c .before .before .before .before .before .before .before .before .before .args .counts) (now (c .before .before .before .before .before .before .before .before .before .args .bytes)) (c .before .before .before .before .before .before .before .before .before .args .terms) _ (omega arith) }
+
+pub read-fares-spec : {M : Type 1} → statement M
+read-fares-spec =
+    tie.close
+    (tie.spec mul-if1 returns read-table-requires fares-good-requires same-length returns-2)

@@ -1,4 +1,4 @@
-// What is done to the labels of a search before they are lent to a route or an edit.
+// What is done to the labels of a search before they are lent to a route, a fare or an edit.
 use std::num::wrapping_add_u16;
 use std::num::wrapping_add_u32;
 ghost use Prim.Native.Nat.{_≤_};

@@ -11,7 +11,7 @@ use Rattle.fare.specs.declared.Won.{Won}
 use Rattle.fare.specs.Amounts.{startedSteps, inWon}
 use Rattle.fare.specs.Fare.{fareOf}
 use Rattle.fare.specs.Examples.{Ride, faresIn, Costs, Every, none-left, and, rides}
-use Rattle.fare.specs.RefusedFares.{Wrong, Refuses, wrongs}
+use Rattle.fare.specs.RefusedFares.{Wrong, Denied, wrongs}
 
 every : {Row : Type 0} (Holds : Row → Type 0) (test : Row → Bool) → ((row : Row) → test row ≡ true → Holds row) → (rows : List Row) → all (map test rows) ≡ true → Every Holds rows
 every Holds test tells [] h = none-left
@@ -29,12 +29,12 @@ costs-so : (ride : Ride) → costs ride ≡ true → Costs ride
 unfolding costs
 costs-so ride h = ap inWon (eqb-true (fare ride .0) (ride .won) h)
 
-refuses : Wrong → Bool
-refuses wrong = costs (wrong .ride) && not (eqb (fare (wrong .ride) .0) (wrong .claimed))
+denied : Wrong → Bool
+denied wrong = costs (wrong .ride) && not (eqb (fare (wrong .ride) .0) (wrong .claimed))
 
-refuses-so : (wrong : Wrong) → refuses wrong ≡ true → Refuses wrong
-unfolding refuses
-refuses-so wrong h =
+denied-so : (wrong : Wrong) → denied wrong ≡ true → Denied wrong
+unfolding denied
+denied-so wrong h =
     let (right, other) = both (costs (wrong .ride)) (not (eqb (fare (wrong .ride) .0) (wrong .claimed))) h in
     (costs-so (wrong .ride) right, λ e. eqb-false (fare (wrong .ride) .0) (wrong .claimed) (not-true _ other) (ap (λ (won : Won). won .0) e))
 
@@ -42,12 +42,12 @@ all-cost : all (map costs rides) ≡ true
 unfolding costs fareOf startedSteps firstBadFrom
 all-cost = refl
 
-all-refused : all (map refuses wrongs) ≡ true
-unfolding refuses costs fareOf startedSteps firstBadFrom
-all-refused = refl
+all-denied : all (map denied wrongs) ≡ true
+unfolding denied costs fareOf startedSteps firstBadFrom
+all-denied = refl
 
 pub rides-cost : Every Costs rides
 rides-cost = every Costs costs costs-so rides all-cost
 
-pub wrongs-refused : Every Refuses wrongs
-wrongs-refused = every Refuses refuses refuses-so wrongs all-refused
+pub wrongs-denied : Every Denied wrongs
+wrongs-denied = every Denied denied denied-so wrongs all-denied

@@ -1,4 +1,4 @@
--- A pass over links goes on link by link; a further link rides no fewer metres and no cheaper line.
+-- A pass over links goes on link by link, and good fares bound the metres, the basic fare, the premiums and so the fare.
 use Prim.Native.Nat.{ℕ, suc, _+_, _*_, _≤_, _<_}
 use mathlib.Core.Path.{_≡_, refl, ap}
 use mathlib.Core.List.{List, [], _∷_, map}
@@ -20,7 +20,7 @@ use Rattle.walk.specs.Walks.{all}
 use Rattle.fare.specs.declared.Terms.{Terms}
 use Rattle.fare.specs.declared.Won.{Won}
 use Rattle.fare.specs.declared.Metres.{Metres}
-use Rattle.fare.specs.Amounts.{beyond, dearer, plus, inWon}
+use Rattle.fare.specs.Amounts.{largestHeld, beyond, dearer, plus, inWon}
 use Rattle.fare.specs.Fares.{Fares, mostMetres, mostWon, faresOf, faresGood}
 use Rattle.fare.specs.Fare.{ridden, dearest, premiums, fareOf}
 use Rattle.fare.proofs.Dearer.{dearer-assoc, dearer-none, dearer-most}
@@ -103,3 +103,7 @@ module _ (count : ℕ) (F : Fares) (limited : Limited count F) where
         by : (own : List ℕ) → links ≡ own → fareOf F links .0 ≤ mostWon + mostMetres * length links * mostWon
         by [] e = omega (arith, ap (λ (x : Won). x .0) (fare-none F links (rw e)))
         by (l ∷ rest) e = omega (arith, ap (λ (x : Won). x .0) (fare-some F links (rw e (omega arith))), dearest-most links exist, premiums-most)
+
+    -- so 64 bits hold the fare of as many links as may be given
+    pub fare-held : length links ≤ 65535 → fareOf F links .0 ≤ largestHeld
+    fare-held few = omega (arith, fare-most)

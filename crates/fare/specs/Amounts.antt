@@ -38,5 +38,5 @@ abbrev pub times : ℕ → Won → Won
 times steps premium = inWon (steps * premium .0)
 
 -- what 64 bits hold
-abbrev pub largestAmount : ℕ
-largestAmount = 18446744073709551615
+abbrev pub largestHeld : ℕ
+largestHeld = 18446744073709551615

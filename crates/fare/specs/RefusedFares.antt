@@ -1,4 +1,4 @@
--- What wrong fares would say of a ride, each beside the right one: the request's habits to be shut out.
+-- What wrong reckonings would charge for a ride, each beside the right fare.
 use mathlib.Core.Path.{_≡_}
 use Prim.Native.Nat.{ℕ}
 use mathlib.Core.List.{List, [], _∷_}
@@ -31,5 +31,5 @@ wrongs =
     ∷ []
 
 -- the ride costs what it should, and not what is claimed
-abbrev pub Refuses : Wrong → Type 0
-Refuses wrong = Costs (wrong .ride) × (fareOf (faresIn (wrong .ride .network)) (wrong .ride .links) ≡ inWon (wrong .claimed) → ⊥)
+abbrev pub Denied : Wrong → Type 0
+Denied wrong = Costs (wrong .ride) × (fareOf (faresIn (wrong .ride .network)) (wrong .ride .links) ≡ inWon (wrong .claimed) → ⊥)

@@ -3,10 +3,10 @@ use super::Metres;
 use super::Won;
 ghost use mathlib.Core.Path.{_≡_};
 ghost use Prim.Native.Nat.{_+_, _*_, _<_, _≤_};
-ghost use Rattle.fare.specs.Amounts.{together, dearer, beyond, startedSteps, plus, times, largestAmount};
+ghost use Rattle.fare.specs.Amounts.{together, dearer, beyond, startedSteps, plus, times, largestHeld};
 
 pub fn together(one: Metres, other: Metres) -> Metres
-    requires { ⌜ one .0 + other .0 ≤ largestAmount ⌝ }
+    requires { ⌜ one .0 + other .0 ≤ largestHeld ⌝ }
     ensures { λ r. ⌜ r ≡ together one other ⌝ }
 {
     Metres(one.0 + other.0)
@@ -22,7 +22,7 @@ pub fn beyond(ridden: Metres, distance: Metres) -> Metres
 }
 
 pub fn started_steps(metres: Metres, step: Metres) -> u64
-    requires { ⌜ (0 < step .0) × (metres .0 + step .0 ≤ largestAmount) ⌝ }
+    requires { ⌜ (0 < step .0) × (metres .0 + step .0 ≤ largestHeld) ⌝ }
     ensures { λ r. ⌜ r ≡ startedSteps metres step ⌝ }
 {
     (metres.0 + (step.0 - 1)) / step.0
@@ -38,14 +38,14 @@ pub fn dearer(one: Won, other: Won) -> Won
 }
 
 pub fn plus(one: Won, other: Won) -> Won
-    requires { ⌜ one .0 + other .0 ≤ largestAmount ⌝ }
+    requires { ⌜ one .0 + other .0 ≤ largestHeld ⌝ }
     ensures { λ r. ⌜ r ≡ plus one other ⌝ }
 {
     Won(one.0 + other.0)
 }
 
 pub fn times(steps: u64, premium: Won) -> Won
-    requires { ⌜ steps * premium .0 ≤ largestAmount ⌝ }
+    requires { ⌜ steps * premium .0 ≤ largestHeld ⌝ }
     ensures { λ r. ⌜ r ≡ times steps premium ⌝ }
 {
     Won(steps * premium.0)

@@ -5,11 +5,11 @@ use cases::put_link;
 use cases::put_three;
 
 // Metres of book A's five links, then the basic fares of its two lines.
-pub const TABLE_A: [u32; 7] = [4000, 3000, 5000, 2000, 9000, 550, 800];
+pub const TABLE: [u32; 7] = [4000, 3000, 5000, 2000, 9000, 550, 800];
 
 // The same with one number replaced.
-pub fn with(at: usize, number: u32) -> [u32; 7] {
-    let mut table = TABLE_A;
+pub fn table_with(at: usize, number: u32) -> [u32; 7] {
+    let mut table = TABLE;
     if at < 7 {
         table[at] = number;
     }

@@ -1,6 +1,6 @@
 // Each limit and one above it, on book A from 0 to 3.
-use super::books::TABLE_A;
-use super::books::with;
+use super::books::TABLE;
+use super::books::table_with;
 use super::running::beside;
 use super::running::from_to;
 use super::running::run;
@@ -24,24 +24,28 @@ fn run_beside(name: &[u8], distance: u64, step: u64, premium: u64, expected: &[u
         name,
         &book,
         from_to(0, 3, 5),
-        &TABLE_A,
+        &TABLE,
         beside(distance, step, premium),
         expected,
     );
 }
 
 fn tables() {
-    run_table(b"metres 200,000", &with(0, 200000), b"4900 won");
-    run_table(b"metres 200,001", &with(0, 200001), b"17");
-    run_table(b"metres 4,294,967,295", &with(0, 4294967295), b"17");
+    run_table(b"metres 200,000", &table_with(0, 200000), b"4900 won");
+    run_table(b"metres 200,001", &table_with(0, 200001), b"17");
+    run_table(b"metres 4,294,967,295", &table_with(0, 4294967295), b"17");
     run_table(
         b"200,000 at a link not ridden",
-        &with(4, 200000),
+        &table_with(4, 200000),
         b"1000 won",
     );
-    run_table(b"200,001 at a link not ridden", &with(4, 200001), b"17");
-    run_table(b"basic fare 100,000", &with(6, 100000), b"100200 won");
-    run_table(b"basic fare 100,001", &with(6, 100001), b"17");
+    run_table(
+        b"200,001 at a link not ridden",
+        &table_with(4, 200001),
+        b"17",
+    );
+    run_table(b"basic fare 100,000", &table_with(6, 100000), b"100200 won");
+    run_table(b"basic fare 100,001", &table_with(6, 100001), b"17");
     run_table(
         b"a table one number short",
         &[4000, 3000, 5000, 2000, 9000, 550],
@@ -55,7 +59,7 @@ fn tables() {
     run_table(b"no table", &[], b"17");
 }
 
-fn figures() {
+fn terms() {
     run_beside(b"basic distance 0", 0, 5000, 100, b"1200 won");
     run_beside(b"basic distance 200,000", 200000, 5000, 100, b"800 won");
     run_beside(b"basic distance 200,001", 200001, 5000, 100, b"17");
@@ -78,5 +82,5 @@ fn figures() {
 
 pub fn limits() {
     tables();
-    figures();
+    terms();
 }

@@ -1,12 +1,13 @@
 // What Route refuses comes before 17, and a refusal leaves the route buffer as it was.
-use super::books::TABLE_A;
-use super::books::with;
+use super::books::TABLE;
+use super::books::table_with;
 use super::running::Asked;
 use super::running::beside;
 use super::running::from_to;
 use super::running::run;
 use cases::Change;
 use cases::LINK_COST;
+use cases::TURN_COST;
 use cases::book_a;
 
 fn run_bad(name: &[u8], asked: Asked, expected: &[u8]) {
@@ -15,7 +16,7 @@ fn run_bad(name: &[u8], asked: Asked, expected: &[u8]) {
         name,
         &book,
         asked,
-        &with(0, 200001),
+        &table_with(0, 200001),
         beside(10000, 5000, 100),
         expected,
     );
@@ -25,21 +26,21 @@ fn run_bad(name: &[u8], asked: Asked, expected: &[u8]) {
 fn lines() {
     let book = book_a();
     let asked = from_to(0, 2, 2);
-    let beside = beside(10000, 5000, 100);
+    let terms = beside(10000, 5000, 100);
     run(
         b"100,001 at a line not ridden",
         &book,
         asked,
-        &with(6, 100001),
-        beside,
+        &table_with(6, 100001),
+        terms,
         b"17",
     );
     run(
         b"100,001 at a line ridden",
         &book,
         asked,
-        &with(5, 100001),
-        beside,
+        &table_with(5, 100001),
+        terms,
         b"17",
     );
 }
@@ -52,7 +53,7 @@ fn books() {
         b"a book of 16 bytes",
         &book[..end],
         from_to(0, 3, 5),
-        &TABLE_A,
+        &TABLE,
         beside(10000, 5000, 100),
         b"1",
     );
@@ -63,7 +64,7 @@ pub fn refused() {
     run_bad(b"a bad table", from_to(0, 3, 5), b"17");
     run_bad(b"a bad table, room 4", from_to(0, 3, 4), b"15");
     run_bad(b"a bad table, no walk", from_to(1, 0, 5), b"14");
-    run_bad(b"a bad table, equal nodes", from_to(3, 3, 0), b"17");
+    run_bad(b"a bad table, equal nodes", from_to(3, 3, 5), b"17");
     run_bad(b"a bad table, no such node", from_to(4, 3, 5), b"10");
     run_bad(
         b"a bad table, one label altered",
@@ -74,6 +75,16 @@ pub fn refused() {
             change: Change::Raised(LINK_COST, 1, 1),
         },
         b"13",
+    );
+    run_bad(
+        b"a bad table, a label buffer one short",
+        Asked {
+            origin: 0,
+            destination: 3,
+            room: 5,
+            change: Change::Shorter(TURN_COST),
+        },
+        b"12",
     );
     books();
 }

@@ -1,5 +1,5 @@
 // The request's examples, and rides through book A.
-use super::books::TABLE_A;
+use super::books::TABLE;
 use super::books::two_lines;
 use super::running::beside;
 use super::running::from_to;
@@ -24,7 +24,7 @@ fn run_a(name: &[u8], origin: u16, destination: u16, room: usize, expected: &[u8
         name,
         &book,
         from_to(origin, destination, room),
-        &TABLE_A,
+        &TABLE,
         beside(10000, 5000, 100),
         expected,
     );

@@ -2,8 +2,10 @@
 use book::NodeNumber;
 use cases::Change;
 use cases::MARK;
+use cases::TURN_COST;
 use cases::at_most;
 use cases::count_at;
+use cases::lent;
 use cases::marks_kept;
 use cases::put_labels;
 use cases::say;
@@ -23,7 +25,7 @@ use search::RouteFigures;
 // The most turns and links of a book here, and the most numbers of a route buffer.
 const ROOM: usize = 32;
 
-// From where, to where, and how many numbers the route buffer has.
+// From where, to where, how many numbers the route buffer has, and what is done to the labels.
 pub struct Asked {
     pub origin: u16,
     pub destination: u16,
@@ -138,6 +140,7 @@ fn ask(book: &[u8], asked: Asked, table: &[u32], terms: Terms) {
     let change = asked.change;
     let links = count_at(book, 9, ROOM);
     let turns = count_at(book, 11, ROOM);
+    let turn_costs = lent(change, TURN_COST, turns, ROOM);
     put_labels(
         book,
         asked.origin,
@@ -156,7 +159,7 @@ fn ask(book: &[u8], asked: Asked, table: &[u32], terms: Terms) {
         asked,
         table,
         terms,
-        &turn_cost[..turns],
+        &turn_cost[..turn_costs],
         &turn_links[..turns],
         &turn_back[..turns],
         &link_cost[..links],

@@ -47,7 +47,7 @@ links-exist U r s links (enters l walk h) =
     let (rest, meet) = both _ _ rest in
     both _ _ rest .0
 
--- a buffer of this room serves every route
+-- a buffer of this room serves every route, and no route costs more
 module _ (book : List ℕ) (r s : ℕ) (counts : Counts) (checked : checkOf book ≡ Good counts) (walk : List ℕ) (route : Route (viewOf book counts) r s walk) where
   pub room-serves : (length walk ≤ routeRoom) × (costOf (viewOf book counts) walk ≤ 191728800)
   room-serves = route-bounded (viewOf book counts) (good-view book counts (walksOf book counts) checked) r (limited-view book counts checked) s walk route

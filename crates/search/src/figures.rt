@@ -13,7 +13,7 @@ pub const NO_WALK: Label = Label {
 // The most links, and the most seconds, of a chosen walk.
 pub const MOST_WALK_LINKS: u16 = 4097;
 
+pub const MOST_WALK_SECONDS: u32 = 191728800;
+
 // A route buffer that serves every route.
 pub const ROUTE_ROOM: usize = MOST_WALK_LINKS as usize;
-
-pub const MOST_WALK_SECONDS: u32 = 191728800;

@@ -2,7 +2,7 @@
 use Prim.Native.Nat.{ℕ, _+_, _-_, _≤_}
 use mathlib.Core.Path.{_≡_, sym, ap, _∙_, subst}
 use mathlib.Core.Logic.{_⊎_, inl, inr}
-use mathlib.Core.List.{List}
+use mathlib.Core.List.{List, [], _∷_}
 use native.Mathlib.Omega.{arith}
 use lib.ListN.{length, take, drop, length-drop, drop-of-length-le}
 use lib.Seq.{take-all}
@@ -16,8 +16,9 @@ use Rattle.search.proofs.RouteRoom.{room-serves, links-exist}
 use Rattle.fare.specs.declared.Terms.{Terms}
 use Rattle.fare.proofs.GoodFares.{rest-whole}
 use Rattle.sheet.specs.declared.Sheeted.the-variants.{Line}
-use Rattle.sheet.specs.FareSheet.{FarePlanned, bad-fares, done, FareSays, longestText, FareSheet, printed}
-use Rattle.sheet.specs.steps.Faring.{Farable, FareTold, bad-fares as told-bad, done as told-fare, LinesPut, BookEnd}
+use Rattle.sheet.specs.Sheet.{Planned, done as planned}
+use Rattle.sheet.specs.FareSheet.{FarePlanned, refused, bad-fares, done, FareSays, longestText, FareSheet, printed}
+use Rattle.sheet.specs.steps.Faring.{RouteToFare, FareTold, bad-fares as told-bad, done as told-fare, LinesPut, BookEnd}
 use Rattle.sheet.proofs.TestLaws.{tests-passed}
 use Rattle.sheet.proofs.Longest.{longest-plan}
 use Rattle.sheet.proofs.Plans.{Led, led-planned}
@@ -34,8 +35,8 @@ module _ (book : List ℕ) (r s : ℕ) (after : List ℕ) (cost count : ℕ) (le
   route : Route (viewOf book counts) r s links
   route = subst (λ (x : Counts). Route (viewOf book x) r s links) same (led .route)
 
-  pub led-farable : Farable book counts cost links
-  led-farable =
+  pub led-to-fare : RouteToFare book counts cost links
+  led-to-fare =
       let few = room-serves book r s counts checked links route .0 in
       record {
         checked = checked;
@@ -78,3 +79,11 @@ text-said room put = printed room (put .lines) (put .told) (ap Line (put .end-at
 pub plan-moved : {book book-too : List ℕ} {r r-too s s-too : ℕ} {table table-too : List ℕ} {terms terms-too : Terms} (lines : List (List ℕ)) → book ≡ book-too → r ≡ r-too → s ≡ s-too → table ≡ table-too → terms ≡ terms-too
     → FarePlanned book r s table terms lines → FarePlanned book-too r-too s-too table-too terms-too lines
 plan-moved lines e f g h i plan = rw (e, f, g, h, i) at plan
+
+-- the printed line stays: the first line is the printer's own, or 17 and 0
+pub first-stays : (book : List ℕ) (r s : ℕ) (table : List ℕ) (terms : Terms) (first : List ℕ) (rest : List (List ℕ)) → FarePlanned book r s table terms (first ∷ rest) → Planned book r s first ⊎ (first ≡ 17 ∷ 0 ∷ [])
+first-stays book r s table terms first rest (refused number place plan f) =
+    let same : first ≡ number ∷ place ∷ [] = cc in
+    inl (rw same plan)
+first-stays book r s table terms first rest (bad-fares counts e links route bad f) = inr (cc)
+first-stays book r s table terms first rest (done counts e links route good f) = inl (planned counts e links route (cc))

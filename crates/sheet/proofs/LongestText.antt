@@ -21,7 +21,7 @@ use Rattle.fare.proofs.FareLaws.{limited-fares, fare-most}
 use Rattle.sheet.specs.Line.{line}
 use Rattle.sheet.specs.Sheet.{originOf, destinationOf, done as planned}
 use Rattle.sheet.specs.FareSheet.{bookIn, tableIn, termsOf, entriesOf, FarePlanned, refused, bad-fares, done, FareSays, short, asked, textOf, longestText}
-use Rattle.sheet.specs.steps.Faring.{FaresRead, Farable}
+use Rattle.sheet.specs.steps.Faring.{FaresRead, RouteToFare}
 use Rattle.sheet.proofs.DigitLaws.{length-below}
 use Rattle.sheet.proofs.LineLaws.{length-one}
 use Rattle.sheet.proofs.TestLaws.{tests-passed}
@@ -36,7 +36,7 @@ fare-line book counts table terms links checked good exist few =
     let most = fare-most (counts .links) (faresOf (viewOf book counts) table terms) (limited-fares book counts table terms checked good) links exist in
     omega (arith, length-one (fareOf (faresOf (viewOf book counts) table terms) links .0), length-below 13 (fareOf (faresOf (viewOf book counts) table terms) links .0) (omega arith))
 
-pub fare-fits : {book : List ℕ} {counts : Counts} {cost : ℕ} {links bytes : List ℕ} {terms : Terms} {table : List ℕ} {answer : Bool} → Farable book counts cost links → FaresRead counts bytes terms table answer → answer ≡ true
+pub fare-fits : {book : List ℕ} {counts : Counts} {cost : ℕ} {links bytes : List ℕ} {terms : Terms} {table : List ℕ} {answer : Bool} → RouteToFare book counts cost links → FaresRead counts bytes terms table answer → answer ≡ true
     → (fare : Won) → fare ≡ fareOf (faresOf (viewOf book counts) table terms) links → length (line (fare .0 ∷ [])) ≤ 15
 fare-fits {book} {counts} {cost} {links} {bytes} {terms} {table} route read good fare e = rw e (fare-line book counts table terms links (route .checked) (read-good read good) (route .given .exist) (route .few))
 

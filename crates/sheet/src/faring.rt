@@ -27,7 +27,7 @@ ghost use Rattle.book.specs.declared.Checked.the-variants.{Good};
 ghost use Rattle.book.specs.Check.{checkOf};
 ghost use Rattle.walk.specs.View.{upTo};
 ghost use Rattle.sheet.specs.FareSheet.{longAt, termsOf, entryBytes, FarePlanned, longestText, FareSheet};
-ghost use Rattle.sheet.specs.steps.Faring.{FaresRead, Farable, FareTold, LinesPut, BookEnd};
+ghost use Rattle.sheet.specs.steps.Faring.{FaresRead, RouteToFare, FareTold, LinesPut, BookEnd};
 
 // A number of four bytes from its two halves.
 fn joined(low: u16, high: u16) -> u32
@@ -43,7 +43,7 @@ fn long_at(bytes: &[u8], at: usize) -> u32
     joined(number_at(bytes, at), number_at(bytes, at + 2))
 }
 
-fn amount_at(bytes: &[u8], at: usize) -> u64
+fn wide_at(bytes: &[u8], at: usize) -> u64
     requires { ⌜ at + 4 ≤ length (now bytes) ⌝ }
     ensures { λ r. ⌜ r ≡ longAt (now (bytes .entry)) at ⌝ }
 {
@@ -55,9 +55,9 @@ fn terms_of(input: &[u8]) -> Terms
     ensures { λ r. ⌜ r ≡ termsOf (now (input .entry)) ⌝ }
 {
     Terms {
-        distance: Metres(amount_at(input, 4)),
-        step: Metres(amount_at(input, 8)),
-        premium: Won(amount_at(input, 12)),
+        distance: Metres(wide_at(input, 4)),
+        step: Metres(wide_at(input, 8)),
+        premium: Won(wide_at(input, 12)),
     }
 }
 
@@ -94,7 +94,7 @@ fn put_fares(
     table: &mut [u32],
     text: &mut [u8],
 ) -> usize
-    requires { ⌜ Farable (now book) counts cost (now links) × ((length (now table) ≡ counts .links + counts .lines) × (longestText ≤ length (now text))) ⌝ }
+    requires { ⌜ RouteToFare (now book) counts cost (now links) × ((length (now table) ≡ counts .links + counts .lines) × (longestText ≤ length (now text))) ⌝ }
     ensures { λ r. ⌜ LinesPut (FareTold (now (book .entry)) counts (now (bytes .entry)) terms cost (now (links .entry))) (now (text .entry)) (now (text .exit)) r ⌝ }
 {
     if !read_fares(counts, bytes, terms, table) {
@@ -115,7 +115,7 @@ fn print_fares(
     links: &[u16],
     text: &mut [u8],
 ) -> usize
-    requires { ⌜ Farable (now book) counts cost (now links) × (longestText ≤ length (now text)) ⌝ }
+    requires { ⌜ RouteToFare (now book) counts cost (now links) × (longestText ≤ length (now text)) ⌝ }
     ensures { λ r. ⌜ LinesPut (FareTold (now (book .entry)) counts (now (bytes .entry)) terms cost (now (links .entry))) (now (text .entry)) (now (text .exit)) r ⌝ }
 {
     let count = counts.links + counts.lines;

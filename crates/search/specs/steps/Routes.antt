@@ -1,4 +1,4 @@
--- What a route asks for once the labels have been judged true.
+-- The room that serves every route, and what a route asks for once the labels have been judged true.
 use Prim.Native.Nat.{ℕ}
 use mathlib.Core.Path.{_≡_}
 use mathlib.Core.List.{List}

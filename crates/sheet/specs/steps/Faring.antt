@@ -28,7 +28,7 @@ abbrev pub routeFields : ℕ → List ℕ → List ℕ
 routeFields cost links = 0 ∷ cost ∷ length links ∷ links
 
 -- few enough links of a good book, whose line is no longer than the longest
-pub record Farable (book : List ℕ) (counts : Counts) (cost : ℕ) (links : List ℕ) : Type 0 where
+pub record RouteToFare (book : List ℕ) (counts : Counts) (cost : ℕ) (links : List ℕ) : Type 0 where
   pub checked : checkOf book ≡ Good counts
   pub given : LinksGiven counts links
   pub few : length links ≤ routeRoom

@@ -11,6 +11,9 @@ count-at-requires c κs = search needs
 count-at-requires-2 : tie.Need-count-at-requires-2
 count-at-requires-2 c κs = search needs
 
+lent-requires : tie.Need-lent-requires
+lent-requires c κs = search needs
+
 slice-aggregate-put-labels : tie.Need-slice-aggregate-put-labels
 slice-aggregate-put-labels c = search needs
 
@@ -80,6 +83,7 @@ ask-spec =
     (tie.spec
     count-at-requires
     count-at-requires-2
+    lent-requires
     slice-aggregate-put-labels
     slice-aggregate-put-labels-2
     slice-aggregate-put-labels-3

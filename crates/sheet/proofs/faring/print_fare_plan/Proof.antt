@@ -7,7 +7,7 @@ use Rattle.sheet.specs.FareSheet.{refused}
 use Rattle.sheet.proofs.Longest.{longest-plan}
 use Rattle.sheet.proofs.Plans.{refusalFields, refusal-planned, Led, route-led}
 use Rattle.sheet.proofs.FareText.{one-put, lines-told}
-use Rattle.sheet.proofs.FarePlans.{led-farable, told-planned}
+use Rattle.sheet.proofs.FarePlans.{led-to-fare, told-planned}
 use borrow.Author.Needs.{needs}
 use Rattle.sheet.proofs.faring.print_fare_plan.Statement.{statement}
 use Rattle.sheet.proofs.faring.print_fare_plan.Tie as tie
@@ -43,7 +43,7 @@ slice-aggregate-print-fares : tie.Need-slice-aggregate-print-fares
 slice-aggregate-print-fares c = sym (led (c .before .before) .front)
 
 print-fares-requires : tie.Need-print-fares-requires
-print-fares-requires c κs = (led-farable _ _ _ _ _ _ (led (c .before .before .before)) _ (c .before .before .before .before .before .before .before .before .before .before .before .pre .0), c .before .before .before .before .before .before .before .before .before .before .before .pre .1)
+print-fares-requires c κs = (led-to-fare _ _ _ _ _ _ (led (c .before .before .before)) _ (c .before .before .before .before .before .before .before .before .before .before .before .pre .0), c .before .before .before .before .before .before .before .before .before .before .before .pre .1)
 
 same-length : tie.Need-same-length
 same-length c = search needs

@@ -3,18 +3,18 @@ use borrow.Author.Needs.{needs}
 use Rattle.sheet.proofs.faring.terms_of.Statement.{statement}
 use Rattle.sheet.proofs.faring.terms_of.Tie as tie
 
-amount-at-requires : tie.Need-amount-at-requires
-amount-at-requires c κs = search needs
+wide-at-requires : tie.Need-wide-at-requires
+wide-at-requires c κs = search needs
 
-amount-at-requires-2 : tie.Need-amount-at-requires-2
-amount-at-requires-2 c κs = search needs
+wide-at-requires-2 : tie.Need-wide-at-requires-2
+wide-at-requires-2 c κs = search needs
 
-amount-at-requires-3 : tie.Need-amount-at-requires-3
-amount-at-requires-3 c κs = search needs
+wide-at-requires-3 : tie.Need-wide-at-requires-3
+wide-at-requires-3 c κs = search needs
 
 returns : tie.Need-returns
-returns c = rw (c .before .before .amount-at .ensures, c .before .amount-at2 .ensures, c .amount-at3 .ensures)
+returns c = rw (c .before .before .wide-at .ensures, c .before .wide-at2 .ensures, c .wide-at3 .ensures)
 
 pub terms-of-spec : {M : Type 1} → statement M
 terms-of-spec =
-    tie.close (tie.spec amount-at-requires amount-at-requires-2 amount-at-requires-3 returns)
+    tie.close (tie.spec wide-at-requires wide-at-requires-2 wide-at-requires-3 returns)

@@ -1,6 +1,7 @@
--- What a search or a route answers and leaves is fixed by what it was lent, since every entry has one true value and the chosen walk is one.
+-- What a search, a route or a pick answers and leaves is fixed by what it was lent, since every entry has one true value, the chosen walk is one, and so is the least candidate.
 use Prim.Native.Nat.{ℕ, _≤_, _<_}
 use mathlib.Core.Path.{_≡_, refl, sym, ap, _∙_, subst}
+use mathlib.Core.Logic.{inl, inr}
 use mathlib.Core.List.{List, _++_}
 use mathlib.Core.Bool.{Bool, true, false}
 use native.Mathlib.Omega.{arith}
@@ -12,17 +13,20 @@ use Rattle.book.proofs.GoodBook.{good-book}
 use Rattle.walk.specs.View.{View, viewOf, walksOf}
 use Rattle.walk.specs.Walks.{costOf}
 use Rattle.walk.specs.Labels.{Table, Entry, entryAt, startBack, TrueTable, TrueLabels, Route}
-use Rattle.walk.proofs.theory.Laws.{clash}
+use Rattle.walk.proofs.theory.Laws.{Compared, lt-tri, clash}
 use Rattle.walk.proofs.GoodView.{GoodView, good-view}
 use Rattle.walk.proofs.LabelLaws.{turn-one, link-one, route-one}
 use Rattle.search.specs.declared.Searched.{Searched}
 use Rattle.search.specs.declared.Searched.the-variants.{Done as SearchDone}
+use Rattle.search.specs.declared.Picked.{Picked}
+use Rattle.search.specs.declared.Picked.the-variants.{Turn, Nothing}
 use Rattle.search.specs.declared.Routed.{Routed}
 use Rattle.search.specs.declared.Routed.the-variants.{Done as RouteDone}
 use Rattle.search.specs.Search.{Search, refused, done}
 use Rattle.search.specs.Route.{RouteOnward, no-walk, no-room, done as routed, Routing, refused as route-refused, untrue, onward}
 use Rattle.search.specs.steps.Tables.{Sized}
 use Rattle.search.specs.steps.Judging.{Tells}
+use Rattle.search.specs.steps.Picking.{Picks}
 use Rattle.search.proofs.TableLaws.{same-table}
 use Rattle.search.proofs.Tested.{search-passed, route-passed}
 
@@ -109,3 +113,15 @@ route-determined book r s turns links buffer one other a b (onward counts e labe
     let same : counts′ ≡ counts = cc in
     let good = good-view book counts (walksOf book counts) (route-passed book r s turns links counts e .0) in
     onward-determined (viewOf book counts) good r s buffer one other a b w (subst (λ (x : Counts). RouteOnward (viewOf book x) r s buffer other b) same w′)
+
+-- two turns that the contract of a pick allows for one state are one, so any picker that meets it may stand there
+pub pick-determined : (cost links settled : List ℕ) (one other : Picked) → Picks cost links settled one → Picks cost links settled other → one ≡ other
+pick-determined cost links settled Nothing Nothing a b = refl
+pick-determined cost links settled Nothing (Turn u) a b = clash (cc (a (u .0) (b .within), b .candidate))
+pick-determined cost links settled (Turn t) Nothing a b = clash (cc (a .candidate, b (t .0) (a .within)))
+pick-determined cost links settled (Turn t) (Turn u) a b = by (lt-tri (t .0) (u .0))
+  where
+    by : Compared _<_ (t .0) (u .0) → _≡_ {A = Picked} (Turn t) (Turn u)
+    by (inl h) = absurd (a .least (u .0) (b .within) (b .candidate) (b .first (t .0) h (a .candidate)))
+    by (inr (inl same)) = ap (λ (n : ℕ). Turn (record { 0 = n })) same
+    by (inr (inr h)) = absurd (b .least (t .0) (a .within) (a .candidate) (a .first (u .0) h (b .candidate)))

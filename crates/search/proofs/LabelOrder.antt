@@ -1,16 +1,16 @@
--- Labels are the same by every field and go by cost, links, back: the tests of this say it, and the order is strict.
+-- Labels are the same by every field and go by cost, links, back: the tests of this say it, and none goes ahead of itself.
 use Prim.Native.Nat.{ℕ, _<_}
-use mathlib.Core.Path.{_≡_, refl, sym, ap, subst, _∙_}
+use mathlib.Core.Path.{_≡_, refl, ap}
 use mathlib.Core.Logic.{_⊎_, inl, inr}
 use mathlib.Core.Bool.{Bool, true, false, _&&_, _||_}
 use native.Mathlib.Omega.{arith}
 use lib.Dec.{ltb, eqb}
 use borrow.Author.Tests.{ltb-true, lt-ltb, le-ltb, eqb-true, eq-eqb}
 use Rattle.walk.specs.Labels.{Key, Less, Entry}
-use Rattle.walk.proofs.theory.Laws.{Compared, clash}
+use Rattle.walk.proofs.theory.Laws.{clash}
 use Rattle.walk.proofs.TrueEntries.{same-key}
 use Rattle.walk.proofs.CaseTests.{same-entry}
-use Rattle.walk.proofs.KeyLaws.{less-irrefl, less-trans, less-tri}
+use Rattle.walk.proofs.KeyLaws.{less-irrefl}
 use Rattle.search.specs.steps.Tables.{standsAs, goesAhead}
 
 -- an entry that stands as a label is equal to it
@@ -29,12 +29,6 @@ Sooner one other = Less (keyOf one) (keyOf other) ⊎ ((keyOf one ≡ keyOf othe
 pub never-sooner : (e : Entry) → Sooner e e → ⊥
 never-sooner e (inl h) = less-irrefl (keyOf e) h
 never-sooner e (inr h) = omega (arith, h .1)
-
-pub sooner-still : (one other third : Entry) → Sooner one other → Sooner other third → Sooner one third
-sooner-still one other third (inl h) (inl g) = inl (less-trans (keyOf one) (keyOf other) (keyOf third) h g)
-sooner-still one other third (inl h) (inr g) = inl (subst (λ (key : Key). Less (keyOf one) key) (g .0) h)
-sooner-still one other third (inr h) (inl g) = inl (subst (λ (key : Key). Less key (keyOf third)) (sym (h .0)) g)
-sooner-still one other third (inr h) (inr g) = inr (h .0 ∙ g .0, omega (arith, h .1, g .1))
 
 module _ (one other : Entry) where
   pub test-fails : goesAhead one other ≡ false → Sooner one other → ⊥
@@ -57,12 +51,3 @@ module _ (one other : Entry) where
       by false e true a true f same s h = inl (inr (eqb-true _ _ a, ltb-true _ _ f))
       by false e true a false f false s h = clash (cc)
       by false e true a false f true s h = inr (same-key _ _ (eqb-true _ _ a) (eqb-true _ _ s), ltb-true _ _ h)
-
-  -- a smaller number that does not come before has the greater key
-  pub later : goesAhead one other ≡ false → one .back < other .back → Less (keyOf other) (keyOf one)
-  later h l = by (less-tri (keyOf one) (keyOf other))
-    where
-      by : Compared Less (keyOf one) (keyOf other) → Less (keyOf other) (keyOf one)
-      by (inl less) = absurd (test-fails h (inl less))
-      by (inr (inl same)) = absurd (test-fails h (inr (same, l)))
-      by (inr (inr less)) = less

@@ -1,8 +1,7 @@
 pub mod TableLaws
 pub mod FilledTables
 pub mod LabelOrder
-pub mod Gathering
-pub mod FirstTurn
+pub mod LeastCandidate
 pub mod Offers
 pub mod BothRuns
 pub mod Spreading

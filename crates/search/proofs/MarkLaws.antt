@@ -2,13 +2,13 @@
 use Prim.Native.Nat.{ℕ, zero, suc, _≤_, _<_}
 use mathlib.Core.Path.{_≡_, refl, sym, ap, _∙_}
 use mathlib.Core.Logic.{_⊎_, inl, inr}
-use mathlib.Core.List.{List, [], _∷_}
+use mathlib.Core.List.{List, [], _∷_, _++_}
 use mathlib.Core.Bool.{Bool, true, false, not}
 use native.Mathlib.Omega.{arith}
 use native.Mathlib.Decide.{ℕ-discrete}
 use lib.Dec.{eqb}
-use lib.ListN.{length, getD, set, replicate, take}
-use lib.Seq.{getD-set-same, getD-set-other}
+use lib.ListN.{length, getD, set, replicate, take, drop, length-set}
+use lib.Seq.{getD-set-same, getD-set-other, length-take-le, take-at}
 use borrow.Author.Tests.{eq-eqb}
 use Rattle.walk.specs.Counting.{oneUnless}
 use Rattle.search.specs.steps.Picking.{isSettled}
@@ -62,3 +62,7 @@ pub front-unmarked : (n m : ℕ) → n ≤ m → take n (replicate {A = ℕ} m 0
 front-unmarked zero m h = refl
 front-unmarked (suc n) zero h = absurd (omega arith)
 front-unmarked (suc n) (suc m) h = ap (λ (rest : List ℕ). 0 ∷ rest) (front-unmarked n m (omega arith))
+
+-- a mark set in the front that was lent is set in the front of the whole
+pub front-marked : (marks front : List ℕ) (n t : ℕ) → n ≤ length marks → front ≡ set (take n marks) t 1 → take n (front ++ drop n marks) ≡ set (take n marks) t 1
+front-marked marks front n t h e = take-at front (drop n marks) n (ap length e ∙ length-set (take n marks) t 1 ∙ length-take-le n marks h) ∙ e

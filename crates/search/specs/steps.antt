@@ -1,7 +1,7 @@
 pub mod Tables
 pub mod Starts
-pub mod Candidates
 pub mod Picking
+pub mod LeastSoFar
 pub mod Passing
 pub mod Marks
 pub mod Ends

@@ -43,13 +43,11 @@ fn label_all(
     let turns = counts.turns;
     let mut walks = [0u16; MOST_TURNS];
     read_walks(book, counts, &mut walks[..turns]);
-    let mut settled = [0u8; MOST_TURNS];
     label_turns(
         book,
         counts,
         &walks[..turns],
         origin,
-        &mut settled[..turns],
         turn_cost,
         turn_links,
         turn_back,

@@ -4,11 +4,12 @@ use super::passing::spread;
 use super::picking::pick;
 use super::starts::start_turns;
 use book::Counts;
+use book::MOST_TURNS;
 use book::NodeNumber;
 use book::TurnNumber;
 ghost use mathlib.Core.Path.{_≡_};
 ghost use Prim.Native.Nat.{ℕ, _<_};
-ghost use lib.ListN.{length, getD, set, replicate};
+ghost use lib.ListN.{length, getD, set};
 ghost use Rattle.book.specs.declared.Checked.the-variants.{Good};
 ghost use Rattle.book.specs.Check.{checkOf};
 ghost use Rattle.walk.specs.View.{viewWith, viewOf, walksOf};
@@ -52,25 +53,35 @@ fn settle(
     );
 }
 
-// From the turns' starts to their true entries.
+// From the turns' starts to their true entries; the marks are its own.
 fn settle_all(
     book: &[u8],
     counts: Counts,
     walks: &[u16],
-    settled: &mut [u8],
     cost: &mut [u32],
     links: &mut [u16],
     back: &mut [u16],
 )
-    requires { ⌜ (checkOf (now book) ≡ Good counts) × (now walks ≡ walksOf (now book) counts) × (now settled ≡ replicate (counts .turns) 0) ⌝ }
+    requires { ⌜ (checkOf (now book) ≡ Good counts) × (now walks ≡ walksOf (now book) counts) ⌝ }
     requires { ⌜ ((r : ℕ) × (three (now cost) (now links) (now back) ≡ tableUpTo (counts .turns) (startEntry (viewOf (now book) counts) r))) ⌝ }
     ensures { λ _. ⌜ ((r : ℕ) → three (now (cost .entry)) (now (links .entry)) (now (back .entry)) ≡ tableUpTo (counts .turns) (startEntry (viewOf (now (book .entry)) counts) r) → TrueTable (counts .turns) (TrueTurn (viewOf (now (book .entry)) counts) r) (three (now (cost .exit)) (now (links .exit)) (now (back .exit)))) ⌝ }
 {
+    let turns = counts.turns;
+    let mut settled = [0u8; MOST_TURNS];
     'settling: loop {
-        let next = pick(cost, links, settled);
+        let next = pick(cost, links, &settled[..turns]);
         match next {
             Picked::Turn(turn) => {
-                settle(book, counts, walks, turn, settled, cost, links, back);
+                settle(
+                    book,
+                    counts,
+                    walks,
+                    turn,
+                    &mut settled[..turns],
+                    cost,
+                    links,
+                    back,
+                );
             }
             Picked::Nothing => {
                 return;
@@ -79,21 +90,20 @@ fn settle_all(
     }
 }
 
-// Every turn's entry, from this origin; the marks are lent, all 0.
+// Every turn's entry, from this origin.
 pub fn label_turns(
     book: &[u8],
     counts: Counts,
     walks: &[u16],
     origin: NodeNumber,
-    settled: &mut [u8],
     cost: &mut [u32],
     links: &mut [u16],
     back: &mut [u16],
 )
-    requires { ⌜ (checkOf (now book) ≡ Good counts) × (now walks ≡ walksOf (now book) counts) × (now settled ≡ replicate (counts .turns) 0) ⌝ }
+    requires { ⌜ (checkOf (now book) ≡ Good counts) × (now walks ≡ walksOf (now book) counts) ⌝ }
     requires { ⌜ Sized (counts .turns) (three (now cost) (now links) (now back)) ⌝ }
     ensures { λ _. ⌜ TrueTable (counts .turns) (TrueTurn (viewOf (now (book .entry)) counts) (origin .0)) (three (now (cost .exit)) (now (links .exit)) (now (back .exit))) ⌝ }
 {
     start_turns(book, counts, walks, origin, cost, links, back);
-    settle_all(book, counts, walks, settled, cost, links, back);
+    settle_all(book, counts, walks, cost, links, back);
 }

@@ -3,14 +3,14 @@ use Prim.Native.Nat.{ℕ, zero, suc, _<_}
 use mathlib.Core.Path.{_≡_, refl, sym, ap, ap₂, _∙_, subst}
 use mathlib.Core.Logic.{inl, inr}
 use mathlib.Core.List.{List, [], _∷_, reverse}
-use mathlib.Core.Bool.{Bool, true, false, _&&_, _||_}
+use mathlib.Core.Bool.{Bool, true, false, _&&_}
 use native.Mathlib.Omega.{arith}
-use lib.Dec.{ltb, eqb}
+use lib.Dec.{eqb}
 use lib.ListN.{length, getD}
-use borrow.Author.Tests.{eqb-true, eq-eqb, ltb-true, lt-ltb}
+use borrow.Author.Tests.{eqb-true, eq-eqb}
 use Rattle.book.proofs.Limits.{both}
 use Rattle.walk.specs.View.{View, upTo}
-use Rattle.walk.specs.Labels.{Key, Less, Entry, keyOf, noEntry, TrueTurn, TrueLink, NodeWalk}
+use Rattle.walk.specs.Labels.{Key, Entry, keyOf, noEntry, TrueTurn, TrueLink, NodeWalk}
 use Rattle.walk.specs.Counting.{sameEntry, differing}
 use Rattle.walk.specs.Cases.{Claim, turnsAre, linksAre, routeIs, routeCosts, noRoute, countsAre, Table, RouteIs, Says, All}
 use Rattle.walk.specs.steps.Net as net-walks
@@ -22,33 +22,13 @@ use Rattle.walk.proofs.theory.Laws.{Compared, lt-tri, clash}
 use Rattle.walk.proofs.theory.Sweep.{Tested, turns-true, link-true, route-true}
 use Rattle.walk.proofs.theory.Reading.{read-route}
 use Rattle.walk.proofs.GoodView.{GoodView}
-use Rattle.walk.proofs.KeyLaws.{laws}
+use Rattle.walk.proofs.KeyLaws.{laws, shown-less, shown-not-less}
 use Rattle.walk.proofs.Filling.{up-to-length, up-to-at}
 use Rattle.walk.proofs.TrueEntries.{same-key, true-outward, chosen-outward, turn-matches, link-matches, node-matches}
 
 -- the test of the keys' order is the order
 pub tested : (U : View) (r : ℕ) → Tested Key (net U r) keyLess
-tested U r = record { less-yes = yes-less; less-no = no-less }
-  where
-    yes-less : (a b : Key) → keyLess a b ≡ true → Less a b
-    yes-less a b h = by (ltb (a .cost) (b .cost)) refl h
-      where
-        by : (test : Bool) → ltb (a .cost) (b .cost) ≡ test → (test || eqb (a .cost) (b .cost) && ltb (a .links) (b .links)) ≡ true → Less a b
-        by true e h = inl (ltb-true _ _ e)
-        by false e h = inr (eqb-true _ _ (both (eqb (a .cost) (b .cost)) (ltb (a .links) (b .links)) h .0), ltb-true _ _ (both (eqb (a .cost) (b .cost)) (ltb (a .links) (b .links)) h .1))
-
-    no-less : (a b : Key) → keyLess a b ≡ false → Less a b → ⊥
-    no-less a b h (inl l) =
-        let e : ltb (a .cost) (b .cost) ≡ true = lt-ltb _ _ l in
-        clash (cc (rw e at h))
-    no-less a b h (inr l) =
-        let e : eqb (a .cost) (b .cost) ≡ true = eq-eqb _ _ (l .0) in
-        let f : ltb (a .links) (b .links) ≡ true = lt-ltb _ _ (l .1) in
-        by (ltb (a .cost) (b .cost)) (rw (e, f) at h)
-      where
-        by : (test : Bool) → (test || true) ≡ false → ⊥
-        by true h = clash (cc)
-        by false h = clash (cc)
+tested U r = record { less-yes = shown-less; less-no = shown-not-less }
 
 -- tests of equality
 abbrev sameBack : Back → Back → Bool

@@ -2,16 +2,17 @@
 use Prim.Native.Nat.{ℕ, suc, _+_, _<_}
 use mathlib.Core.Path.{_≡_, refl, sym}
 use mathlib.Core.Logic.{inl, inr}
-use mathlib.Core.Bool.{_&&_}
+use mathlib.Core.Bool.{Bool, true, false, _&&_, _||_}
 use native.Mathlib.Omega.{arith}
-use lib.Dec.{eqb}
-use borrow.Author.Tests.{eqb-true}
+use lib.Dec.{ltb, eqb}
+use borrow.Author.Tests.{ltb-true, lt-ltb, eqb-true, eq-eqb}
 use Rattle.book.proofs.Limits.{both}
 use Rattle.walk.specs.View.{View}
 use Rattle.walk.specs.Labels.{Key, Less}
 use Rattle.walk.specs.Walks.{between, allowed}
+use Rattle.walk.specs.steps.Rows.{keyLess}
 use Rattle.walk.specs.steps.ViewNet.{net, isOpen}
-use Rattle.walk.proofs.theory.Laws.{Laws, Compared, lt-tri}
+use Rattle.walk.proofs.theory.Laws.{Laws, Compared, lt-tri, clash}
 use Rattle.walk.proofs.GoodView.{GoodView}
 use Rattle.walk.proofs.NetWalks.{holds}
 use Rattle.walk.proofs.TrueEntries.{same-key}
@@ -35,6 +36,27 @@ less-tri a b = by (lt-tri (a .cost) (b .cost)) (lt-tri (a .links) (b .links))
     by (inr (inl e)) (inl h) = inl (inr (e, h))
     by (inr (inl e)) (inr (inl h)) = inr (inl (same-key a b e h))
     by (inr (inl e)) (inr (inr h)) = inr (inr (inr (sym e, h)))
+
+-- the test of the order is the order
+pub shown-less : (a b : Key) → keyLess a b ≡ true → Less a b
+shown-less a b h = by (ltb (a .cost) (b .cost)) refl h
+  where
+    by : (test : Bool) → ltb (a .cost) (b .cost) ≡ test → (test || eqb (a .cost) (b .cost) && ltb (a .links) (b .links)) ≡ true → Less a b
+    by true e h = inl (ltb-true _ _ e)
+    by false e h = inr (eqb-true _ _ (both (eqb (a .cost) (b .cost)) (ltb (a .links) (b .links)) h .0), ltb-true _ _ (both (eqb (a .cost) (b .cost)) (ltb (a .links) (b .links)) h .1))
+
+pub shown-not-less : (a b : Key) → keyLess a b ≡ false → Less a b → ⊥
+shown-not-less a b h (inl l) =
+    let e : ltb (a .cost) (b .cost) ≡ true = lt-ltb _ _ l in
+    clash (cc (rw e at h))
+shown-not-less a b h (inr l) =
+    let e : eqb (a .cost) (b .cost) ≡ true = eq-eqb _ _ (l .0) in
+    let f : ltb (a .links) (b .links) ≡ true = lt-ltb _ _ (l .1) in
+    by (ltb (a .cost) (b .cost)) (rw (e, f) at h)
+  where
+    by : (test : Bool) → (test || true) ≡ false → ⊥
+    by true h = clash (cc)
+    by false h = clash (cc)
 
 -- one step more for both keeps their order, and one step more is more
 pub less-step : (a b : Key) (step : ℕ) → Less a b → Less (record { cost = a .cost + step; links = suc (a .links) }) (record { cost = b .cost + step; links = suc (b .links) })

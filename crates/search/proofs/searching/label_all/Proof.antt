@@ -9,7 +9,6 @@ use native.Mathlib.Omega.{arith}
 use Rattle.search.specs.steps.Tables.{Sized}
 use Rattle.book.proofs.GoodBook.{good-book}
 use Rattle.search.proofs.Labelling.{labels-true}
-use Rattle.search.proofs.MarkLaws.{front-unmarked}
 use Rattle.search.proofs.TableLaws.{up-to-sized}
 use Rattle.walk.proofs.Filling.{up-to-length, front-within}
 use Rattle.search.proofs.searching.label_all.Statement.{statement}
@@ -40,25 +39,19 @@ array-share-prefix-walks c = room (c .before)
 slice-aggregate-label-turns : tie.Need-slice-aggregate-label-turns
 slice-aggregate-label-turns c = sym (length-take-le _ _ (room (c .before .before)))
 
-array-borrow-prefix-settled : tie.Need-array-borrow-prefix-settled
-array-borrow-prefix-settled c = few-turns (c .before .before .before .before .before .before .before .before .before .before .before)
-
-slice-aggregate-label-turns-2 : tie.Need-slice-aggregate-label-turns-2
-slice-aggregate-label-turns-2 c = sym (length-take-le _ _ (few-turns (c .before .before .before .before .before .before .before .before .before .before .before .before)))
-
 label-turns-requires : tie.Need-label-turns-requires
 label-turns-requires c κs =
-    let read = c .before .before .before .before .before .before in
-    let start = c .before .before .before .before .before .before .before .before .before .before .before .before .before .before .before in
-    ((start .pre .0, take-at _ _ _ (filled read) ∙ read .read-walks .ensures, front-unmarked _ _ (few-turns start)), start .pre .1 .0)
+    let read = c .before .before .before .before .before in
+    let start = c .before .before .before .before .before .before .before .before .before .before .before .before .before .before in
+    ((start .pre .0, take-at _ _ _ (filled read) ∙ read .read-walks .ensures), start .pre .1 .0)
 
 start-links-requires : tie.Need-start-links-requires
 start-links-requires c κs = search needs
 
 end-turns-requires : tie.Need-end-turns-requires
 end-turns-requires c κs =
-    let labelled = c .before .before .before .before .before .before .before .before .before .before .before .before .before .before .before .before .before .before .before .before .before .before .label-turns .ensures in
-    ((c .before .before .before .before .before .before .before .before .before .before .before .before .before .before .before .before .before .before .before .before .before .before .before .before .before .before .before .before .before .before .before .before .before .before .before .before .before .before .pre .0, labelled .costs, labelled .counts), subst (Sized _) (sym (c .before .before .before .before .before .before .before .before .before .before .before .start-links .ensures)) (up-to-sized _ _))
+    let labelled = c .before .before .before .before .before .before .before .before .before .before .before .before .before .before .before .before .before .before .before .before .before .label-turns .ensures in
+    ((c .before .before .before .before .before .before .before .before .before .before .before .before .before .before .before .before .before .before .before .before .before .before .before .before .before .before .before .before .before .before .before .before .before .before .before .before .pre .0, labelled .costs, labelled .counts), subst (Sized _) (sym (c .before .before .before .before .before .before .before .before .before .before .before .start-links .ensures)) (up-to-sized _ _))
 
 same-length : tie.Need-same-length
 same-length c = search needs
@@ -79,7 +72,7 @@ same-length-6 : tie.Need-same-length-6
 same-length-6 c = search needs
 
 returns : tie.Need-returns
-returns c = labels-true _ _ (c .before .before .before .before .before .before .before .before .before .before .before .before .before .before .before .before .before .before .before .before .before .before .before .before .before .before .before .before .before .before .before .before .before .before .before .before .before .before .before .before .before .before .before .before .before .pre .0) _ _ _ _ (c .before .before .before .before .before .before .before .before .before .before .before .before .before .before .before .before .before .before .before .before .before .before .before .before .before .before .before .before .before .label-turns .ensures) (c .before .before .before .before .before .before .before .before .before .before .before .before .before .before .before .before .before .before .start-links .ensures) (c .before .before .before .before .before .before .end-turns .ensures)
+returns c = labels-true _ _ (c .before .before .before .before .before .before .before .before .before .before .before .before .before .before .before .before .before .before .before .before .before .before .before .before .before .before .before .before .before .before .before .before .before .before .before .before .before .before .before .before .before .before .before .pre .0) _ _ _ _ (c .before .before .before .before .before .before .before .before .before .before .before .before .before .before .before .before .before .before .before .before .before .before .before .before .before .before .before .before .label-turns .ensures) (c .before .before .before .before .before .before .before .before .before .before .before .before .before .before .before .before .before .before .start-links .ensures) (c .before .before .before .before .before .before .end-turns .ensures)
 
 pub label-all-spec : {M : Type 1} → statement M
 label-all-spec =
@@ -90,8 +83,6 @@ label-all-spec =
     read-walks-requires
     array-share-prefix-walks
     slice-aggregate-label-turns
-    array-borrow-prefix-settled
-    slice-aggregate-label-turns-2
     label-turns-requires
     start-links-requires
     end-turns-requires

@@ -8,13 +8,13 @@ use Rattle.search.proofs.settling.label_turns.Tie as tie
 
 start-turns-requires : tie.Need-start-turns-requires
 start-turns-requires c κs =
-    let start = c .before .before .before .before .before .before .before .before .before in
+    let start = c .before .before .before .before .before .before .before .before in
     ((start .pre .0 .0, ap length (start .pre .0 .1) ∙ up-to-length _ _), start .pre .1)
 
 settle-all-requires : tie.Need-settle-all-requires
 settle-all-requires c κs =
-    let start = c .before .before .before .before .before .before .before .before .before .before .before .before .before .before .before .before .before .before .before .before in
-    (start .pre .0, (start .args .origin .0, rw (start .pre .0 .1) at (c .before .before .before .before .before .before .before .before .before .before .start-turns .ensures)))
+    let start = c .before .before .before .before .before .before .before .before .before .before .before .before .before .before .before .before .before .before in
+    (start .pre .0, (start .args .origin .0, rw (start .pre .0 .1) at (c .before .before .before .before .before .before .before .before .before .start-turns .ensures)))
 
 same-length : tie.Need-same-length
 same-length c = search needs
@@ -25,13 +25,10 @@ same-length-2 c = search needs
 same-length-3 : tie.Need-same-length-3
 same-length-3 c = search needs
 
-same-length-4 : tie.Need-same-length-4
-same-length-4 c = search needs
-
 returns : tie.Need-returns
 returns c =
-    let start = c .before .before .before .before .before .before .before .before .before .before .before .before .before .before .before .before .before .before .before .before .before .before .before .before .before .before .before .before .before in
-    c .before .before .before .before .before .before .before .before .settle-all .ensures (start .args .origin .0) (rw (start .pre .0 .1) at (c .before .before .before .before .before .before .before .before .before .before .before .before .before .before .before .before .before .before .before .start-turns .ensures))
+    let start = c .before .before .before .before .before .before .before .before .before .before .before .before .before .before .before .before .before .before .before .before .before .before .before .before .before in
+    c .before .before .before .before .before .before .settle-all .ensures (start .args .origin .0) (rw (start .pre .0 .1) at (c .before .before .before .before .before .before .before .before .before .before .before .before .before .before .before .before .start-turns .ensures))
 
 pub label-turns-spec : {M : Type 1} → statement M
 label-turns-spec =
@@ -42,5 +39,4 @@ label-turns-spec =
     same-length
     same-length-2
     same-length-3
-    same-length-4
     returns)

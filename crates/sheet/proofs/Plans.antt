@@ -3,7 +3,8 @@ use Prim.Native.Nat.{ℕ, _≤_}
 use mathlib.Core.Path.{_≡_, refl, sym, ap, _∙_, subst}
 use mathlib.Core.List.{List, [], _∷_}
 use native.Mathlib.Omega.{arith}
-use lib.ListN.{length, take}
+use lib.ListN.{length, take, drop, length-append}
+use lib.Seq.{take-at}
 use Rattle.book.specs.declared.Counts.{Counts}
 use Rattle.book.specs.declared.Refusal.{Refusal}
 use Rattle.book.specs.declared.Checked.the-variants.{Good, Refused}
@@ -37,29 +38,29 @@ pub record Led (book : List ℕ) (r s : ℕ) (after : List ℕ) (cost count : �
   pub within : count ≤ length after
   pub front : length (take count after) ≡ count
 
-module _ (book : List ℕ) (r s : ℕ) (answer : Routed) (after : List ℕ) where
-  pub refusal-planned : Found book r s answer after → (found : Refusal) → answer ≡ RouteRefused found → Planned book r s (refusalFields found)
-  refusal-planned (found-refused own e a) found told =
+module _ (book : List ℕ) (r s : ℕ) (buffer : List ℕ) (answer : Routed) (after : List ℕ) where
+  pub refusal-planned : Found book r s buffer answer after → (found : Refusal) → answer ≡ RouteRefused found → Planned book r s (refusalFields found)
+  refusal-planned (found-refused own e a left) found told =
       let same : own ≡ found = cc (told, a) in
       refused own e (ap refusalFields (sym same))
-  refusal-planned (found-none counts e none a) found told =
+  refusal-planned (found-none counts e none a left) found told =
       let same : refusal 14 0 ≡ found = cc (told, a) in
       no-walk counts e none (ap refusalFields (sym same))
-  refusal-planned (found-route counts e links route a within front) found told = clash (cc (told, a))
+  refusal-planned (found-route counts e links route a left) found told = clash (cc (told, a))
 
-  pub route-led : (cost count : ℕ) → Found book r s answer after → answer ≡ RouteDone cost count → Led book r s after cost count
-  route-led cost count (found-refused own e a) told = clash (cc (told, a))
-  route-led cost count (found-none counts e none a) told = clash (cc (told, a))
-  route-led cost count (found-route counts e links route a within front) told =
+  pub route-led : (cost count : ℕ) → Found book r s buffer answer after → answer ≡ RouteDone cost count → Led book r s after cost count
+  route-led cost count (found-refused own e a left) told = clash (cc (told, a))
+  route-led cost count (found-none counts e none a left) told = clash (cc (told, a))
+  route-led cost count (found-route counts e links route a left) told =
       let same : length links ≡ count = cc (told, a) in
       let cost-same : cost ≡ costOf (viewOf book counts) links = cc (told, a) in
-      let links-same : take count after ≡ links = rw (← same) front in
+      let links-same : take count after ≡ links = ap (take count) left ∙ take-at links (drop (length links) buffer) count same in
       record {
         counts = counts;
         passed = e;
         route = subst (Route (viewOf book counts) r s) (sym links-same) route;
         costs = rw (links-same) cost-same;
-        within = omega arith;
+        within = omega (arith, ap length left, length-append links (drop (length links) buffer));
         front = ap length links-same ∙ same;
       }
 

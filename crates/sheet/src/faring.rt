@@ -27,7 +27,7 @@ ghost use Rattle.book.specs.declared.Checked.the-variants.{Good};
 ghost use Rattle.book.specs.Check.{checkOf};
 ghost use Rattle.walk.specs.View.{upTo};
 ghost use Rattle.sheet.specs.FareSheet.{longAt, termsOf, entryBytes, FarePlanned, longestText, FareSheet};
-ghost use Rattle.sheet.specs.steps.Faring.{FaresRead, RouteToFare, FareTold, LinesPut, BookEnd};
+ghost use Rattle.sheet.specs.steps.Faring.{FaresRead, readInto, RouteToFare, FareTold, LinesPut, BookEnd};
 
 // A number of four bytes from its two halves.
 fn joined(low: u16, high: u16) -> u32
@@ -76,6 +76,7 @@ fn read_table(bytes: &[u8], table: &mut [u32])
 fn read_fares(counts: Counts, bytes: &[u8], terms: Terms, table: &mut [u32]) -> bool
     requires { ⌜ length (now table) ≡ counts .links + counts .lines ⌝ }
     ensures { λ r. ⌜ FaresRead counts (now (bytes .entry)) terms (now (table .exit)) r ⌝ }
+    ensures { λ _. ⌜ now (table .exit) ≡ readInto (now (bytes .entry)) (now (table .entry)) ⌝ }
 {
     if bytes.len() != ENTRY_BYTES * table.len() {
         return false;
@@ -96,6 +97,7 @@ fn put_fares(
 ) -> usize
     requires { ⌜ RouteToFare (now book) counts cost (now links) × ((length (now table) ≡ counts .links + counts .lines) × (longestText ≤ length (now text))) ⌝ }
     ensures { λ r. ⌜ LinesPut (FareTold (now (book .entry)) counts (now (bytes .entry)) terms cost (now (links .entry))) (now (text .entry)) (now (text .exit)) r ⌝ }
+    ensures { λ _. ⌜ now (table .exit) ≡ readInto (now (bytes .entry)) (now (table .entry)) ⌝ }
 {
     if !read_fares(counts, bytes, terms, table) {
         return put_refusal(text, 17, 0);

@@ -14,7 +14,7 @@ ghost use Rattle.book.specs.declared.Checked.the-variants.{Good};
 ghost use Rattle.book.specs.Check.{checkOf};
 ghost use Rattle.walk.specs.Labels.{three};
 ghost use Rattle.search.specs.steps.Routes.{routeRoom};
-ghost use Rattle.sheet.specs.steps.Planning.{Ready, Found};
+ghost use Rattle.sheet.specs.steps.Planning.{Ready, Found, Labelled};
 
 // A search, then the route.
 fn plan_search(
@@ -31,7 +31,8 @@ fn plan_search(
 ) -> Routed
     requires { ⌜ Ready (now book) (three (now «turn_cost») (now «turn_links») (now «turn_back»)) (three (now «link_cost») (now «link_links») (now «link_back»)) ⌝ }
     requires { ⌜ routeRoom ≤ length (now links) ⌝ }
-    ensures { λ r. ⌜ Found (now (book .entry)) (origin .0) (destination .0) r (now (links .exit)) ⌝ }
+    ensures { λ r. ⌜ Found (now (book .entry)) (origin .0) (destination .0) (now (links .entry)) r (now (links .exit)) ⌝ }
+    ensures { λ _. ⌜ Labelled (now (book .entry)) (origin .0) (three (now («turn_cost» .entry)) (now («turn_links» .entry)) (now («turn_back» .entry))) (three (now («link_cost» .entry)) (now («link_links» .entry)) (now («link_back» .entry))) (three (now («turn_cost» .exit)) (now («turn_links» .exit)) (now («turn_back» .exit))) (three (now («link_cost» .exit)) (now («link_links» .exit)) (now («link_back» .exit))) ⌝ }
 {
     match search(
         book,
@@ -70,7 +71,7 @@ pub fn plan(
     links: &mut [u16],
 ) -> Routed
     requires { ⌜ (checkOf (now book) ≡ Good counts) × (routeRoom ≤ length (now links)) ⌝ }
-    ensures { λ r. ⌜ Found (now (book .entry)) (origin .0) (destination .0) r (now (links .exit)) ⌝ }
+    ensures { λ r. ⌜ Found (now (book .entry)) (origin .0) (destination .0) (now (links .entry)) r (now (links .exit)) ⌝ }
 {
     let turns = counts.turns;
     let count = counts.links;

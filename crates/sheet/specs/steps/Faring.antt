@@ -1,9 +1,10 @@
 -- What stands between the route that was found, its fares, and the lines that are put.
-use Prim.Native.Nat.{ℕ, _+_, _≤_}
+use Prim.Native.Nat.{ℕ, _+_, _*_, _≤_}
 use mathlib.Core.Path.{_≡_}
 use mathlib.Core.Logic.{_⊎_}
 use mathlib.Core.List.{List, [], _∷_, _++_}
-use mathlib.Core.Bool.{Bool, true, false}
+use mathlib.Core.Bool.{Bool, true, false, cond}
+use lib.Dec.{eqb}
 use lib.ListN.{length, drop}
 use Rattle.book.specs.declared.Counts.{Counts}
 use Rattle.book.specs.declared.Checked.the-variants.{Good}
@@ -16,12 +17,16 @@ use Rattle.fare.specs.Fare.{fareOf}
 use Rattle.fare.specs.steps.Reckoning.{LinksGiven}
 use Rattle.sheet.specs.Line.{line}
 use Rattle.sheet.specs.Sheet.{longestLine}
-use Rattle.sheet.specs.FareSheet.{entriesOf, bytesGood, textOf}
+use Rattle.sheet.specs.FareSheet.{entryBytes, entriesOf, bytesGood, textOf}
 
 -- the table's entries are read where the fares are good
 pub record FaresRead (counts : Counts) (bytes : List ℕ) (terms : Terms) (after : List ℕ) (answer : Bool) : Type 0 where
   pub tells : answer ≡ bytesGood counts bytes terms
   pub entries : answer ≡ true → after ≡ entriesOf bytes
+
+-- what is left in a table: its entries where the bytes are as many as they take, else what it held
+abbrev pub readInto : List ℕ → List ℕ → List ℕ
+readInto bytes table = cond (eqb (length bytes) (entryBytes * length table)) (entriesOf bytes) table
 
 -- the fields of a route
 abbrev pub routeFields : ℕ → List ℕ → List ℕ

@@ -13,10 +13,10 @@ use Rattle.sheet.proofs.faring.print_fare_plan.Statement.{statement}
 use Rattle.sheet.proofs.faring.print_fare_plan.Tie as tie
 
 planned : (c : tie.After-found) → Planned (now (c .before .before .before .before .before .before .before .before .args .book)) (c .before .before .before .before .before .before .before .before .args .origin .0) (c .before .before .before .before .before .before .before .before .args .destination .0) (refusalFields (c .found .given .0 .0))
-planned c = refusal-planned _ _ _ _ _ (c .before .before .before .plan .ensures) _ (c .found .given .1)
+planned c = refusal-planned _ _ _ _ _ _ (c .before .before .before .plan .ensures) _ (c .found .given .1)
 
 led : (c : tie.After-cost) → Led (now (c .before .before .before .before .before .before .before .before .args .book)) (c .before .before .before .before .before .before .before .before .args .origin .0) (c .before .before .before .before .before .before .before .before .args .destination .0) (c .before .before .before .plan .last .1 .1 .1 .1 .0) (c .cost .given .0 .0) (c .cost .given .0 .1 .0)
-led c = route-led _ _ _ _ _ _ _ (c .before .before .before .plan .ensures) (c .cost .given .1)
+led c = route-led _ _ _ _ _ _ _ _ (c .before .before .before .plan .ensures) (c .cost .given .1)
 
 slice-aggregate-plan : tie.Need-slice-aggregate-plan
 slice-aggregate-plan c = search needs

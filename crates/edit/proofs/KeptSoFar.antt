@@ -3,11 +3,11 @@ use Prim.Native.Nat.{ℕ, _+_, _*_, _/_, _%_, _≤_, _<_}
 use mathlib.Core.Path.{_≡_, sym, ap, _∙_, subst}
 use mathlib.Core.List.{List, _++_}
 use native.Mathlib.Omega.{arith}
-use native.Mathlib.Decide.{decLt}
 use lib.ListN.{length, set, take, drop, length-set}
 use lib.Seq.{getD-set-same, getD-set-other, length-take-le, take-at}
 use Rattle.walk.specs.Labels.{Table, entryAt}
 use Rattle.walk.proofs.Filling.{front-within}
+use Rattle.walk.proofs.theory.Laws.{one-more}
 use Rattle.search.specs.steps.Tables.{Sized}
 use Rattle.edit.specs.steps.KeptLabels.{keptEntry, keptAt, KeptWhole}
 
@@ -35,14 +35,11 @@ module _ (count : ℕ) (kept : List ℕ) (table : Table) where
       record {
         within = omega arith;
         whole = length-set kept n value ∙ so-far .whole;
-        front = λ k l. by k l (decLt k n);
+        front =
+            one-more n (λ k. keptAt (set kept n value) k ≡ entryAt table k)
+            (λ k below. ap keptEntry (getD-set-other kept n k value 0 (λ same. omega arith)) ∙ so-far .front k below)
+            (ap keptEntry (getD-set-same kept n value 0 (omega (arith, so-far .whole))) ∙ e);
       }
-    where
-      by : (k : ℕ) → k < n + 1 → Dec (k < n) → keptAt (set kept n value) k ≡ entryAt table k
-      by k l (yes below) = ap keptEntry (getD-set-other kept n k value 0 (λ same. omega arith)) ∙ so-far .front k below
-      by k l (no past) =
-          let same : k ≡ n = omega arith in
-          rw same (ap keptEntry (getD-set-same kept n value 0 (omega (arith, so-far .whole))) ∙ e)
 
   pub all-kept : (n : ℕ) → count ≤ n → Kept count kept table n → KeptWhole count kept table
   all-kept n h so-far = record { whole = so-far .whole; holds = λ k l. so-far .front k (omega arith) }

@@ -5,7 +5,6 @@ use mathlib.Core.Logic.{_⊎_, inl, inr, _↔_}
 use mathlib.Core.List.{List}
 use mathlib.Core.Bool.{Bool, true, false}
 use native.Mathlib.Omega.{arith}
-use native.Mathlib.Decide.{decLt}
 use Rattle.book.specs.declared.Counts.{Counts}
 use Rattle.book.specs.declared.Checked.the-variants.{Good}
 use Rattle.book.specs.Check.{checkOf, refusal}
@@ -13,7 +12,7 @@ use Rattle.book.proofs.GoodBook.{good-book}
 use Rattle.walk.specs.View.{View, viewOf, walksOf}
 use Rattle.walk.specs.Labels.{Entry, Table, entryAt, TrueTurn, TrueLink, TrueTable, TrueLabels}
 use Rattle.walk.specs.Counting.{sameEntry}
-use Rattle.walk.proofs.theory.Laws.{clash}
+use Rattle.walk.proofs.theory.Laws.{clash, one-more}
 use Rattle.walk.proofs.CaseTests.{same-entry, entry-same}
 use Rattle.walk.proofs.GoodView.{good-view}
 use Rattle.walk.proofs.LabelLaws.{turn-one, link-one}
@@ -48,13 +47,7 @@ module _ (count : ℕ) (TrueAt : ℕ → Entry → Type 0) (exists : (k : ℕ) �
       by : ((k : ℕ) → k < n → TrueAt k (entryAt table k)) ⊎ Differs count TrueAt table → TrueAt n (entryAt table n) ⊎ Differs count TrueAt table → ((k : ℕ) → k < suc n → TrueAt k (entryAt table k)) ⊎ Differs count TrueAt table
       by (inr differs) last = inr differs
       by (inl earlier) (inr differs) = inr differs
-      by (inl earlier) (inl last) = inl (λ k h. at k h (decLt k n))
-        where
-          at : (k : ℕ) → k < suc n → Dec (k < n) → TrueAt k (entryAt table k)
-          at k h (yes below) = earlier k below
-          at k h (no past) =
-              let same : k ≡ n = omega arith in
-              rw same last
+      by (inl earlier) (inl last) = inl (λ k h. one-more n (λ k. TrueAt k (entryAt table k)) earlier last k (omega arith))
 
   table-or-differs : Sized count table → TrueTable count TrueAt table ⊎ Differs count TrueAt table
   table-or-differs sized = by (true-or-differs count (λ k h. h))

@@ -3,23 +3,19 @@ use Prim.Native.Nat.{ℕ, zero, suc, _+_, _≤_, _<_}
 use mathlib.Core.Path.{_≡_, refl, sym, _∙_}
 use mathlib.Core.Bool.{Bool, true, false, not}
 use native.Mathlib.Omega.{arith}
-use native.Mathlib.Decide.{decLt}
 use native.Mathlib.Numerals.{add-one}
 use borrow.Author.Tests.{not-true, not-false}
 use Rattle.book.proofs.Limits.{both}
+use Rattle.walk.proofs.theory.Laws.{one-more}
 use Rattle.search.specs.steps.Judging.{everyBelow}
 
 module _ (test : ℕ → Bool) where
   pub every-at : (n : ℕ) → everyBelow test n ≡ true → (k : ℕ) → k < n → test k ≡ true
   unfolding everyBelow
   every-at zero h k l = absurd (omega arith)
-  every-at (suc n) h k l = by (every-at n (both (everyBelow test n) (test n) h .0) k) (decLt k n)
-    where
-      by : (k < n → test k ≡ true) → Dec (k < n) → test k ≡ true
-      by earlier (yes below) = earlier below
-      by earlier (no past) =
-          let same : k ≡ n = omega arith in
-          rw same (both (everyBelow test n) (test n) h .1)
+  every-at (suc n) h k l =
+      let (before, last) = both (everyBelow test n) (test n) h in
+      one-more n (λ k. test k ≡ true) (every-at n before) last k (omega arith)
 
   pub every-holds : (n : ℕ) → ((k : ℕ) → k < n → test k ≡ true) → everyBelow test n ≡ true
   unfolding everyBelow

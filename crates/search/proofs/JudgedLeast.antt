@@ -10,7 +10,7 @@ use Rattle.walk.specs.Labels.{Key, Entry, startBack, noEntry}
 use Rattle.walk.specs.steps.Net.{Back, start, via, rank, Entry as Reached, reached, Candidates, Ahead, Least, least, nothing}
 use Rattle.walk.specs.steps.Sweep.{when, based}
 use Rattle.walk.specs.steps.ViewNet.{net, backNumber, figures, reading}
-use Rattle.walk.proofs.theory.Laws.{clash}
+use Rattle.walk.proofs.theory.Laws.{clash, refuted}
 use Rattle.walk.proofs.LabelLaws.{figures-reading, reading-figures, reading-none}
 use Rattle.search.specs.steps.Tables.{goesAhead}
 use Rattle.search.proofs.LabelOrder.{Sooner, never-sooner, test-fails, test-holds}
@@ -37,11 +37,7 @@ module _ (C : Candidates Key) where
   Supported e = (e ≡ noEntry) ⊎ ((k : Key) × (b : Back) × C k b × (e ≡ figures (reached k b)))
 
 not-ahead : (one other : Entry) → (Sooner one other → ⊥) → goesAhead one other ≡ false
-not-ahead one other never = by (goesAhead one other) refl
-  where
-    by : (test : Bool) → goesAhead one other ≡ test → test ≡ false
-    by true e = absurd (never (test-holds one other e))
-    by false e = refl
+not-ahead one other never = refuted (goesAhead one other) (λ e. never (test-holds one other e))
 
 module _ (U : View) (r : ℕ) (short : ℕ) (k k′ : Key) where
   -- of two candidates the one is ahead in the net exactly where it comes sooner by the numbers

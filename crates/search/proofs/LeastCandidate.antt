@@ -5,46 +5,34 @@ use mathlib.Core.Logic.{_⊎_, inl, inr}
 use mathlib.Core.List.{List}
 use mathlib.Core.Bool.{Bool, true, false, cond}
 use native.Mathlib.Omega.{arith}
-use native.Mathlib.Decide.{decLt}
 use lib.ListN.{length}
 use Rattle.book.specs.declared.TurnNumber.{TurnNumber}
 use Rattle.walk.specs.Labels.{Key, Less}
 use Rattle.walk.specs.steps.Rows.{keyLess}
-use Rattle.walk.proofs.theory.Laws.{Compared, clash}
-use Rattle.walk.proofs.KeyLaws.{less-irrefl, less-trans, less-tri, shown-less, shown-not-less}
+use Rattle.walk.proofs.theory.Laws.{Compared, clash, refuted, one-more}
+use Rattle.walk.proofs.KeyLaws.{less-irrefl, less-trans, less-tri, shown-less, less-shown}
 use Rattle.search.specs.declared.Picked.{Picked}
 use Rattle.search.specs.declared.Picked.the-variants.{Turn, Nothing}
 use Rattle.search.specs.steps.Picking.{isCandidate, keyAt, Picks}
 use Rattle.search.specs.steps.LeastSoFar.{withCandidate, withTurn, HeldBelow}
 
-less-tested : {a b : Key} → Less a b → keyLess a b ≡ true
-less-tested {a} {b} l = by (keyLess a b) refl
-  where
-    by : (test : Bool) → keyLess a b ≡ test → test ≡ true
-    by true e = refl
-    by false e = absurd (shown-not-less a b e l)
-
-not-less-tested : {a b : Key} → (Less a b → ⊥) → keyLess a b ≡ false
-not-less-tested {a} {b} never = by (keyLess a b) refl
-  where
-    by : (test : Bool) → keyLess a b ≡ test → test ≡ false
-    by true e = absurd (never (shown-less a b e))
-    by false e = refl
+not-less-shown : (a b : Key) → (Less a b → ⊥) → keyLess a b ≡ false
+not-less-shown a b never = refuted (keyLess a b) (λ e. never (shown-less a b e))
 
 module _ (cost links settled : List ℕ) where
   abbrev key : ℕ → Key
   key turn = keyAt cost links turn
 
-  -- a candidate takes the place of a turn that it is less than; of two alike the one held stays
+  -- a candidate takes the place of a turn that it is less than; of two alike, where neither is, the one held stays
   module _ (turn least : TurnNumber) where
     alike-stays : key (turn .0) ≡ key (least .0) → withCandidate cost links turn (Turn least) ≡ Turn least
-    alike-stays same = simp (not-less-tested (λ l. less-irrefl _ (subst (λ (k : Key). Less k (key (least .0))) same l)), not-less-tested (λ l. less-irrefl _ (subst (λ (k : Key). Less (key (least .0)) k) same l)))
+    alike-stays same = simp (not-less-shown _ _ (λ l. less-irrefl _ (subst (λ (k : Key). Less k (key (least .0))) same l)), not-less-shown _ _ (λ l. less-irrefl _ (subst (λ (k : Key). Less (key (least .0)) k) same l)))
 
     less-taken : Less (key (turn .0)) (key (least .0)) → withCandidate cost links turn (Turn least) ≡ Turn turn
-    less-taken l = simp (less-tested l)
+    less-taken l = simp (less-shown _ _ l)
 
     lesser-stays : Less (key (least .0)) (key (turn .0)) → withCandidate cost links turn (Turn least) ≡ Turn least
-    lesser-stays l = simp (not-less-tested (λ g. less-irrefl _ (less-trans _ _ _ l g)))
+    lesser-stays l = simp (not-less-shown _ _ (λ g. less-irrefl _ (less-trans _ _ _ l g)))
 
   -- a turn is less than another, or as little and not after it
   abbrev Leads : ℕ → ℕ → Type 0
@@ -68,16 +56,6 @@ module _ (cost links settled : List ℕ) where
   less-leads : (one other v : ℕ) → Less (key one) (key other) → Leads other v → Less (key one) (key v)
   less-leads one other v h (inl l) = less-trans (key one) (key other) (key v) h l
   less-leads one other v h (inr l) = subst (λ (k : Key). Less (key one) k) (l .0) h
-
-  -- the turns below one more are those below and the last
-  one-more : (bound : ℕ) (P : ℕ → Type 0) → ((v : ℕ) → v < bound → P v) → P bound → (v : ℕ) → v < bound + 1 → P v
-  one-more bound P before last v h = by (decLt v bound)
-    where
-      by : Dec (v < bound) → P v
-      by (yes below) = before v below
-      by (no past) =
-          let same : bound ≡ v = omega arith in
-          subst P same last
 
   module _ (turn : TurnNumber) where
     abbrev bound : ℕ

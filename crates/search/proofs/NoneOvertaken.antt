@@ -12,6 +12,7 @@ use Rattle.walk.specs.View.{View, viewWith}
 use Rattle.walk.specs.Walks.{lookUp, between}
 use Rattle.walk.specs.Labels.{Table, entryAt}
 use Rattle.walk.specs.steps.Pairs.{pairFrom, listedAt, stepTo}
+use Rattle.walk.proofs.theory.Laws.{one-more}
 use Rattle.search.specs.steps.Judging.{everyBelow, overtakenBy, overtaken}
 use Rattle.search.proofs.EveryBelow.{every-holds, every-fails}
 use Rattle.search.proofs.Overtaking.{overtaken-at, not-overtaken}
@@ -45,13 +46,7 @@ module _ {book : List ℕ} {counts : Counts} {walks : List ℕ} {p cost links : 
         sym (at-step ∙ overtaken-at U p t cost links turns (follower (so-far .both .runs) t (so-far .both .from) inside))
 
     pub none-next : answer ≡ false → NoneOvertaken book counts walks p cost links turns start end first to next (t + 1)
-    none-next stands = record { both = both-next (so-far .both) found inside; stand = λ k h. by k h (decLt k t) }
-      where
-        by : (k : ℕ) → k < t + 1 → Dec (k < t) → overtaken U p cost links turns k ≡ false
-        by k h (yes l) = so-far .stand k l
-        by k h (no n) =
-            let same : k ≡ t = omega arith in
-            rw same (here ∙ stands)
+    none-next stands = record { both = both-next (so-far .both) found inside; stand = one-more t (λ k. overtaken U p cost links turns k ≡ false) (so-far .stand) (here ∙ stands) }
 
     pub one-overtaken : answer ≡ true → false ≡ everyBelow (λ v. not (overtaken U p cost links turns v)) (counts .turns)
     one-overtaken falls =

@@ -11,6 +11,7 @@ use Rattle.walk.specs.View.{View, viewWith}
 use Rattle.walk.specs.Walks.{lookUp, between}
 use Rattle.walk.specs.Labels.{Table, entryAt}
 use Rattle.walk.specs.steps.Pairs.{pairFrom, listedAt, stepTo}
+use Rattle.walk.proofs.theory.Laws.{one-more}
 use Rattle.search.specs.steps.Tables.{tableUpTo, Sized}
 use Rattle.search.specs.steps.Passing.{passedBy, passedTo}
 use Rattle.search.proofs.TableLaws.{filled-table}
@@ -64,12 +65,6 @@ module _ {book : List ℕ} {counts : Counts} {walks : List ℕ} {p cost links : 
         record {
           both = both-next (spreading .both) found inside;
           sized = rw passed-on (passed-sized U p cost links t (spreading .sized));
-          passed = λ k h. by k h (decLt k t);
+          passed = one-more t (λ k. entryAt after k ≡ passedTo U p cost links (entryAt old k) k) (λ k l. elsewhere k (λ same. omega arith) ∙ spreading .passed k l) (here inside);
           kept = λ k h. elsewhere k (λ same. omega arith) ∙ spreading .kept k (omega arith);
         }
-      where
-        by : (k : ℕ) → k < t + 1 → Dec (k < t) → entryAt after k ≡ passedTo U p cost links (entryAt old k) k
-        by k h (yes l) = elsewhere k (λ same. omega arith) ∙ spreading .passed k l
-        by k h (no n) =
-            let same : k ≡ t = omega arith in
-            rw same (here inside)

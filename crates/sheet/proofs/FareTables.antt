@@ -2,17 +2,18 @@
 use Prim.Native.Nat.{ℕ, _+_, _*_, _/_, _%_, _<_}
 use mathlib.Core.Path.{_≡_, refl, sym, ap, _∙_}
 use mathlib.Core.List.{List, [], _∷_}
-use mathlib.Core.Bool.{Bool, true, false, _&&_}
+use mathlib.Core.Bool.{Bool, true, false, _&&_, cond}
 use native.Mathlib.Omega.{arith}
 use lib.Dec.{eqb}
 use lib.ListN.{length}
-use borrow.Author.Tests.{eqb-true, eq-eqb}
+use borrow.Author.Tests.{eqb-true, eqb-false, eq-eqb}
 use Rattle.book.specs.declared.Counts.{Counts}
 use Rattle.book.specs.declared.Checked.the-variants.{Good}
 use Rattle.book.specs.Check.{checkOf}
 use Rattle.book.proofs.Limits.{both}
 use Rattle.book.proofs.GoodBook.{good-book}
 use Rattle.walk.specs.View.{upTo, viewOf}
+use Rattle.walk.proofs.theory.Laws.{clash}
 use Rattle.walk.proofs.Filling.{up-to-length}
 use Rattle.fare.specs.declared.Terms.{Terms}
 use Rattle.fare.specs.declared.Won.{Won}
@@ -59,13 +60,20 @@ module _ (counts : Counts) (bytes : List ℕ) (terms : Terms) where
       let few = good-book book counts checked .limited in
       other-bytes (λ e. omega (arith, few .links, few .lines))
 
--- a table that was read and is good
-module _ {counts : Counts} {bytes : List ℕ} {terms : Terms} {after : List ℕ} {answer : Bool} (read : FaresRead counts bytes terms after answer) (good : answer ≡ true) where
-  pub bytes-good : bytesGood counts bytes terms ≡ true
+-- a table of one entry a link and one a line that was read and is good
+module _ {counts : Counts} {bytes : List ℕ} {terms : Terms} {table after : List ℕ} {answer : Bool} (sized : length table ≡ counts .links + counts .lines) (read : FaresRead counts bytes terms table answer after) (good : answer ≡ true) where
+  bytes-good : bytesGood counts bytes terms ≡ true
   bytes-good = sym (read .tells) ∙ good
 
+  entries-read : after ≡ entriesOf bytes
+  entries-read = read .left ∙ by (eqb (length bytes) (entryBytes * length table)) refl
+    where
+      by : (whole : Bool) → eqb (length bytes) (entryBytes * length table) ≡ whole → cond whole (entriesOf bytes) table ≡ entriesOf bytes
+      by true e = refl
+      by false e = clash (cc (bytes-good, other-bytes counts bytes terms (λ h. eqb-false (length bytes) (entryBytes * length table) e (rw sized h))))
+
   pub read-good : faresGood counts after terms ≡ true
-  read-good = rw (read .entries good) (good-entries counts bytes terms bytes-good)
+  read-good = rw entries-read (good-entries counts bytes terms bytes-good)
 
   pub fare-told : {book : List ℕ} {cost : ℕ} {links : List ℕ} (fare : Won) → fare ≡ fareOf (faresOf (viewOf book counts) after terms) links → FareTold book counts bytes terms cost links (routeFields cost links ∷ (fare .0 ∷ []) ∷ [])
-  fare-told {book} {cost} {links} fare e = done bytes-good (rw (e, read .entries good))
+  fare-told {book} {cost} {links} fare e = done bytes-good (rw (e, entries-read))

@@ -1,5 +1,5 @@
 -- No text is longer than 20,517 bytes: the longest line, and a fare of at most 81,940,000,100,000 won with its newline.
-use Prim.Native.Nat.{ℕ, _≤_}
+use Prim.Native.Nat.{ℕ, _+_, _≤_}
 use mathlib.Core.Path.{_≡_, refl}
 use mathlib.Core.List.{List, [], _∷_, map}
 use mathlib.Core.Bool.{Bool, true}
@@ -36,9 +36,9 @@ fare-line book counts table terms links checked good exist few =
     let most = fare-most (counts .links) (faresOf (viewOf book counts) table terms) (limited-fares book counts table terms checked good) links exist in
     omega (arith, length-one (fareOf (faresOf (viewOf book counts) table terms) links .0), length-below 13 (fareOf (faresOf (viewOf book counts) table terms) links .0) (omega arith))
 
-pub fare-fits : {book : List ℕ} {counts : Counts} {cost : ℕ} {links bytes : List ℕ} {terms : Terms} {table : List ℕ} {answer : Bool} → RouteToFare book counts cost links → FaresRead counts bytes terms table answer → answer ≡ true
-    → (fare : Won) → fare ≡ fareOf (faresOf (viewOf book counts) table terms) links → length (line (fare .0 ∷ [])) ≤ 15
-fare-fits {book} {counts} {cost} {links} {bytes} {terms} {table} route read good fare e = rw e (fare-line book counts table terms links (route .checked) (read-good read good) (route .given .exist) (route .few))
+pub fare-fits : {book : List ℕ} {counts : Counts} {cost : ℕ} {links bytes : List ℕ} {terms : Terms} {table after : List ℕ} {answer : Bool} → RouteToFare book counts cost links → length table ≡ counts .links + counts .lines → FaresRead counts bytes terms table answer after → answer ≡ true
+    → (fare : Won) → fare ≡ fareOf (faresOf (viewOf book counts) after terms) links → length (line (fare .0 ∷ [])) ≤ 15
+fare-fits {book} {counts} {cost} {links} {bytes} {terms} {table} {after} route sized read good fare e = rw e (fare-line book counts after terms links (route .checked) (read-good sized read good) (route .given .exist) (route .few))
 
 one-line : (lines : List (List ℕ)) (fields : List ℕ) → lines ≡ fields ∷ [] → length (textOf lines) ≡ length (line fields)
 one-line lines fields e = rw (e, text-one fields)

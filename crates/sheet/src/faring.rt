@@ -75,8 +75,7 @@ fn read_table(bytes: &[u8], table: &mut [u32])
 // A table of another length is not read.
 fn read_fares(counts: Counts, bytes: &[u8], terms: Terms, table: &mut [u32]) -> bool
     requires { ⌜ length (now table) ≡ counts .links + counts .lines ⌝ }
-    ensures { λ r. ⌜ FaresRead counts (now (bytes .entry)) terms (now (table .exit)) r ⌝ }
-    ensures { λ _. ⌜ now (table .exit) ≡ readInto (now (bytes .entry)) (now (table .entry)) ⌝ }
+    ensures { λ r. ⌜ FaresRead counts (now (bytes .entry)) terms (now (table .entry)) r (now (table .exit)) ⌝ }
 {
     if bytes.len() != ENTRY_BYTES * table.len() {
         return false;

@@ -1,7 +1,6 @@
 -- What a case says is tested by computing the labels of its view; a test that passes proves the claim over walks, whatever the view.
 use Prim.Native.Nat.{ℕ, zero, suc, _<_}
 use mathlib.Core.Path.{_≡_, refl, sym, ap, ap₂, _∙_, subst}
-use mathlib.Core.Logic.{inl, inr}
 use mathlib.Core.List.{List, [], _∷_, reverse}
 use mathlib.Core.Bool.{Bool, true, false, _&&_}
 use native.Mathlib.Omega.{arith}
@@ -18,17 +17,17 @@ use Rattle.walk.specs.steps.Net.{Back, start, via, Entry as Reached, unr
 use Rattle.walk.specs.steps.Reading.{readRoute}
 use Rattle.walk.specs.steps.ViewNet.{net, figures}
 use Rattle.walk.specs.steps.Rows.{keyLess, tableOf, sweepOf, turnRows, linkRow, routeRow}
-use Rattle.walk.proofs.theory.Laws.{Compared, lt-tri, clash}
+use Rattle.walk.proofs.theory.Laws.{clash, one-more}
 use Rattle.walk.proofs.theory.Sweep.{Tested, turns-true, link-true, route-true}
 use Rattle.walk.proofs.theory.Reading.{read-route}
 use Rattle.walk.proofs.GoodView.{GoodView}
-use Rattle.walk.proofs.KeyLaws.{laws, shown-less, shown-not-less}
+use Rattle.walk.proofs.KeyLaws.{laws, shown-less, less-shown}
 use Rattle.walk.proofs.Filling.{up-to-length, up-to-at}
 use Rattle.walk.proofs.TrueEntries.{same-key, true-outward, chosen-outward, turn-matches, link-matches, node-matches}
 
 -- the test of the keys' order is the order
 pub tested : (U : View) (r : ℕ) → Tested Key (net U r) keyLess
-tested U r = record { less-yes = shown-less; less-no = shown-not-less }
+tested U r = record { less-yes = shown-less; less-no = λ a b h l. clash (cc (less-shown a b l, h)) }
 
 -- tests of equality
 abbrev sameBack : Back → Back → Bool
@@ -108,12 +107,9 @@ below-all (suc n) test = below-all n test && test n
 
 each-below : (n : ℕ) (test : ℕ → Bool) → below-all n test ≡ true → (k : ℕ) → k < n → test k ≡ true
 each-below zero test h k l = absurd (omega arith)
-each-below (suc n) test h k l = by (each-below n test (both (below-all n test) (test n) h .0) k) (lt-tri k n)
-  where
-    by : (k < n → test k ≡ true) → Compared _<_ k n → test k ≡ true
-    by earlier (inl m) = earlier m
-    by earlier (inr (inl e)) = rw e (both (below-all n test) (test n) h .1)
-    by earlier (inr (inr m)) = absurd (omega arith)
+each-below (suc n) test h k l =
+    let (before, last) = both (below-all n test) (test n) h in
+    one-more n (λ k. test k ≡ true) (each-below n test before) last k (omega arith)
 
 -- ---- a view whose computed rows stay as they are in one more round
 

@@ -20,6 +20,7 @@ use Rattle.walk.specs.Walks.{turnOf, permitted, costOf, linkCost}
 use Rattle.walk.specs.Labels.{startBack}
 use Rattle.walk.specs.steps.Backwards.{turnsBack, permittedBack, costBack, stepPermitted, stepCost}
 use Rattle.walk.specs.steps.Onward.{turnBefore, advanced, oneMore, walkAnswer}
+use Rattle.walk.proofs.theory.Laws.{refuted}
 use Rattle.walk.proofs.Backwards.{permitted-reverse, cost-reverse}
 use Rattle.walk.proofs.Growth.{and-true, permitted-more, cost-more, permitted-one, cost-one, step-tests}
 use Rattle.walk.proofs.ChosenLaws.{Limited}
@@ -48,10 +49,6 @@ onward-says false t s turn more e = (cc, cc, cc)
 stopped-says : (goes : Bool) (t s : ℕ) → advanced goes t s ≡ Stopped → goes ≡ false
 stopped-says true t s e = cc
 stopped-says false t s e = refl
-
-never : (t : Bool) → (t ≡ true → ⊥) → t ≡ false
-never true h = absurd (h refl)
-never false h = refl
 
 one-more-link : (links : List ℕ) (k : ℕ) → k < length links → reverse (take (k + 1) links) ≡ getD links k 0 ∷ reverse (take k links)
 one-more-link links k h = rw (add-one, take-suc links k 0 h) (reverse-append (take k links) (getD links k 0 ∷ []))
@@ -92,7 +89,7 @@ module _ (U : View) where
 
     not-permitted : (links : List ℕ) → (permitted U r links ≡ true → ⊥) → NotPermitted ≡ walkAnswer U r links
     unfolding walkAnswer
-    not-permitted links h = rw (never (permitted U r links) h)
+    not-permitted links h = rw (refuted (permitted U r links) h)
 
     -- the first link does not exist or leaves another node
     pub no-start : (links : List ℕ) → 0 < length links → ((getD links 0 0 < U .links) × (U .from (getD links 0 0) ≡ r) → ⊥) → NotPermitted ≡ walkAnswer U r links

@@ -12,7 +12,7 @@ use Rattle.walk.specs.Labels.{Key, Less}
 use Rattle.walk.specs.Walks.{between, allowed}
 use Rattle.walk.specs.steps.Rows.{keyLess}
 use Rattle.walk.specs.steps.ViewNet.{net, isOpen}
-use Rattle.walk.proofs.theory.Laws.{Laws, Compared, lt-tri, clash}
+use Rattle.walk.proofs.theory.Laws.{Laws, Compared, lt-tri}
 use Rattle.walk.proofs.GoodView.{GoodView}
 use Rattle.walk.proofs.NetWalks.{holds}
 use Rattle.walk.proofs.TrueEntries.{same-key}
@@ -45,18 +45,13 @@ shown-less a b h = by (ltb (a .cost) (b .cost)) refl h
     by true e h = inl (ltb-true _ _ e)
     by false e h = inr (eqb-true _ _ (both (eqb (a .cost) (b .cost)) (ltb (a .links) (b .links)) h .0), ltb-true _ _ (both (eqb (a .cost) (b .cost)) (ltb (a .links) (b .links)) h .1))
 
-pub shown-not-less : (a b : Key) → keyLess a b ≡ false → Less a b → ⊥
-shown-not-less a b h (inl l) =
-    let e : ltb (a .cost) (b .cost) ≡ true = lt-ltb _ _ l in
-    clash (cc (rw e at h))
-shown-not-less a b h (inr l) =
-    let e : eqb (a .cost) (b .cost) ≡ true = eq-eqb _ _ (l .0) in
-    let f : ltb (a .links) (b .links) ≡ true = lt-ltb _ _ (l .1) in
-    by (ltb (a .cost) (b .cost)) (rw (e, f) at h)
+pub less-shown : (a b : Key) → Less a b → keyLess a b ≡ true
+less-shown a b (inl l) = rw (lt-ltb _ _ l)
+less-shown a b (inr l) = rw (eq-eqb _ _ (l .0), lt-ltb _ _ (l .1)) (by (ltb (a .cost) (b .cost)))
   where
-    by : (test : Bool) → (test || true) ≡ false → ⊥
-    by true h = clash (cc)
-    by false h = clash (cc)
+    by : (test : Bool) → (test || true) ≡ true
+    by true = refl
+    by false = refl
 
 -- one step more for both keeps their order, and one step more is more
 pub less-step : (a b : Key) (step : ℕ) → Less a b → Less (record { cost = a .cost + step; links = suc (a .links) }) (record { cost = b .cost + step; links = suc (b .links) })

@@ -19,14 +19,14 @@ use Rattle.sheet.specs.Line.{line}
 use Rattle.sheet.specs.Sheet.{longestLine}
 use Rattle.sheet.specs.FareSheet.{entryBytes, entriesOf, bytesGood, textOf}
 
--- the table's entries are read where the fares are good
-pub record FaresRead (counts : Counts) (bytes : List ℕ) (terms : Terms) (after : List ℕ) (answer : Bool) : Type 0 where
-  pub tells : answer ≡ bytesGood counts bytes terms
-  pub entries : answer ≡ true → after ≡ entriesOf bytes
-
--- what is left in a table: its entries where the bytes are as many as they take, else what it held
+-- the entries are read where they take as many bytes as there are; else the table is left as it was
 abbrev pub readInto : List ℕ → List ℕ → List ℕ
 readInto bytes table = cond (eqb (length bytes) (entryBytes * length table)) (entriesOf bytes) table
+
+-- whether the fares are good, and what is left in the table that was lent for them
+pub record FaresRead (counts : Counts) (bytes : List ℕ) (terms : Terms) (table : List ℕ) (answer : Bool) (after : List ℕ) : Type 0 where
+  pub tells : answer ≡ bytesGood counts bytes terms
+  pub left : after ≡ readInto bytes table
 
 -- the fields of a route
 abbrev pub routeFields : ℕ → List ℕ → List ℕ

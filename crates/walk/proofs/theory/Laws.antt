@@ -1,7 +1,8 @@
 -- What the theory asks of a key's order and of a net, and the small facts that all of it shares.
-use mathlib.Core.Path.{_≡_, refl, ap}
+use mathlib.Core.Path.{_≡_, refl, ap, subst}
 use mathlib.Core.Logic.{_⊎_, inl, inr}
-use Prim.Native.Nat.{ℕ, suc, _<_}
+use mathlib.Core.Bool.{Bool, true, false}
+use Prim.Native.Nat.{ℕ, suc, _+_, _<_}
 use native.Mathlib.Omega.{arith}
 use native.Mathlib.Decide.{decLt}
 use lib.Dec.{T}
@@ -36,6 +37,20 @@ clash e = absurd (omega arith)
 
 pub lt-tri : (a b : ℕ) → Compared _<_ a b
 lt-tri a b = elim (decLt a b) [ yes h ↦ inl h | no n ↦ elim (decLt b a) [ yes h ↦ inr (inr h) | no m ↦ inr (inl (omega arith)) ] ]
+
+pub refuted : (test : Bool) → (test ≡ true → ⊥) → test ≡ false
+refuted true never = absurd (never refl)
+refuted false never = refl
+
+-- what holds below n and of n holds below one more
+pub one-more : (n : ℕ) (P : ℕ → Type 0) → ((k : ℕ) → k < n → P k) → P n → (k : ℕ) → k < n + 1 → P k
+one-more n P before last k h = by (decLt k n)
+  where
+    by : Dec (k < n) → P k
+    by (yes below) = before k below
+    by (no past) =
+        let same : n ≡ k = omega arith in
+        subst P same last
 
 pub rank-injective : (b b′ : Back) → rank b ≡ rank b′ → b ≡ b′
 rank-injective start start e = refl

@@ -1,4 +1,4 @@
--- The labels of a view computed round by round over all turns, for the worked cases.
+-- The test of the keys' order, and with it the labels of a view computed round by round over all turns, for the worked cases.
 use Prim.Native.Nat.{ℕ, zero, suc}
 use mathlib.Core.List.{List, []}
 use mathlib.Core.Bool.{Bool, _&&_, _||_}

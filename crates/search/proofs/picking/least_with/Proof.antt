@@ -1,4 +1,4 @@
--- A turn that is no candidate changes nothing; a candidate stands beside what is held.
+-- A turn that is no candidate changes nothing; a candidate is held where nothing is, or where it is less.
 use borrow.Author.Needs.{needs}
 use borrow.Author.Tests.{not-true, not-false}
 use mathlib.Core.Path.{sym, _∙_}

@@ -28,16 +28,22 @@ same-length-2 : tie.Need-same-length-2
 same-length-2 c = search needs
 
 returns : tie.Need-returns
-returns c = (one-put _ (bad-fares (sym (c .before .before .before .before .before .before .before .read-fares .ensures .0 .tells) ∙ not-true _ (c .before .before .before .before .if1 .taken)) refl) (c .before .before .put-refusal .ensures), c .before .before .before .before .before .before .before .read-fares .ensures .1)
+returns c =
+    let read = c .before .before .before .before .before .before .before .read-fares .ensures in
+    (one-put _ (bad-fares (sym (read .tells) ∙ not-true _ (c .before .before .before .before .if1 .taken)) refl) (c .before .before .put-refusal .ensures), read .left)
 
 put-route-requires : tie.Need-put-route-requires
 put-route-requires c κs = search needs
 
 fare-of-requires : tie.Need-fare-of-requires
-fare-of-requires c κs = record { checked = c .before .before .before .before .before .before .before .before .before .before .before .before .before .before .before .pre .0 .checked; good = read-good (c .before .before .before .before .before .before .before .before .read-fares .ensures .0) (told (c .before .before .before .before .before)); given = c .before .before .before .before .before .before .before .before .before .before .before .before .before .before .before .pre .0 .given }
+fare-of-requires c κs =
+    let start = c .before .before .before .before .before .before .before .before .before .before .before .before .before .before .before in
+    record { checked = start .pre .0 .checked; good = read-good (start .pre .1 .0) (c .before .before .before .before .before .before .before .before .read-fares .ensures) (told (c .before .before .before .before .before)); given = start .pre .0 .given }
 
 put-number-requires : tie.Need-put-number-requires
-put-number-requires c κs = omega (arith, fare-fits (c .before .before .before .before .before .before .before .before .before .before .before .before .before .before .before .before .before .pre .0) (c .before .before .before .before .before .before .before .before .before .before .read-fares .ensures .0) (told (c .before .before .before .before .before .before .before)) _ (c .before .fare-of .ensures), c .before .before .before .before .before .before .before .before .before .before .before .before .before .before .before .before .before .pre .0 .fits, c .before .before .before .before .before .before .before .before .before .before .before .before .before .before .before .before .before .pre .1 .1, c .before .before .before .before .before .put-route .ensures .1)
+put-number-requires c κs =
+    let start = c .before .before .before .before .before .before .before .before .before .before .before .before .before .before .before .before .before in
+    omega (arith, fare-fits (start .pre .0) (start .pre .1 .0) (c .before .before .before .before .before .before .before .before .before .before .read-fares .ensures) (told (c .before .before .before .before .before .before .before)) _ (c .before .fare-of .ensures), start .pre .0 .fits, start .pre .1 .1, c .before .before .before .before .before .put-route .ensures .1)
 
 same-length-3 : tie.Need-same-length-3
 same-length-3 c = search needs
@@ -46,7 +52,12 @@ same-length-4 : tie.Need-same-length-4
 same-length-4 c = search needs
 
 returns-2 : tie.Need-returns-2
-returns-2 c = (two-put _ _ (fare-told (c .before .before .before .before .before .before .before .before .before .before .before .before .before .read-fares .ensures .0) (told (c .before .before .before .before .before .before .before .before .before .before)) _ (c .before .before .before .before .fare-of .ensures)) (omega (arith, fare-fits (c .before .before .before .before .before .before .before .before .before .before .before .before .before .before .before .before .before .before .before .before .pre .0) (c .before .before .before .before .before .before .before .before .before .before .before .before .before .read-fares .ensures .0) (told (c .before .before .before .before .before .before .before .before .before .before)) _ (c .before .before .before .before .fare-of .ensures), c .before .before .before .before .before .before .before .before .before .before .before .before .before .before .before .before .before .before .before .before .pre .0 .fits, c .before .before .before .before .before .before .before .before .before .before .before .before .before .before .before .before .before .before .before .before .pre .1 .1)) (c .before .before .before .before .before .before .before .before .put-route .ensures) (c .before .before .put-number .ensures), c .before .before .before .before .before .before .before .before .before .before .before .before .before .read-fares .ensures .1)
+returns-2 c =
+    let start = c .before .before .before .before .before .before .before .before .before .before .before .before .before .before .before .before .before .before .before .before in
+    let read = c .before .before .before .before .before .before .before .before .before .before .before .before .before .read-fares .ensures in
+    let good = told (c .before .before .before .before .before .before .before .before .before .before) in
+    let fare = c .before .before .before .before .fare-of .ensures in
+    (two-put _ _ (fare-told (start .pre .1 .0) read good _ fare) (omega (arith, fare-fits (start .pre .0) (start .pre .1 .0) read good _ fare, start .pre .0 .fits, start .pre .1 .1)) (c .before .before .before .before .before .before .before .before .put-route .ensures) (c .before .before .put-number .ensures), read .left)
 
 pub put-fares-spec : {M : Type 1} → statement M
 put-fares-spec =

@@ -4,7 +4,6 @@ use Prim.Native.Nat.{_*_}
 use lib.ListN.{length}
 use mathlib.Core.Path.{_≡_, sym, _∙_}
 use native.Mathlib.Omega.{arith}
-use Rattle.walk.proofs.theory.Laws.{clash}
 use Rattle.sheet.specs.FareSheet.{entryBytes}
 use Rattle.sheet.proofs.FareTables.{other-bytes, all-entries, whole-good}
 use borrow.Author.Needs.{needs}
@@ -16,7 +15,9 @@ mul-if1 : tie.Need-mul-if1
 mul-if1 c = search needs
 
 returns : tie.Need-returns
-returns c = (record { tells = sym (other-bytes (c .before .before .before .args .counts) (now (c .before .before .before .args .bytes)) (c .before .before .before .args .terms) (λ e. omega arith)); entries = λ e. clash (cc e) }, sym (rw (ne-eqb _ _ (c .if1 .taken))))
+returns c =
+    let start = c .before .before .before in
+    record { tells = sym (other-bytes (start .args .counts) (now (start .args .bytes)) (start .args .terms) (λ e. omega arith)); left = rw (ne-eqb _ _ (c .if1 .taken)) }
 
 read-table-requires : tie.Need-read-table-requires
 read-table-requires c κs = search needs
@@ -32,8 +33,10 @@ returns-2 c =
     let start = c .before .before .before .before .before .before .before .before .before in
     let whole : length (now (start .args .bytes)) ≡ entryBytes * length (now (start .args .table)) = omega arith in
     let filled = c .before .before .before .before .read-table .ensures in
-    let entries = filled ∙ all-entries (start .args .counts) (now (start .args .bytes)) (start .args .terms) _ whole in
-    (record { tells = c .fares-good .ensures ∙ whole-good (start .args .counts) (now (start .args .bytes)) (start .args .terms) _ whole _ filled; entries = λ e. entries }, rw (eq-eqb _ _ whole) entries)
+    record {
+      tells = c .fares-good .ensures ∙ whole-good (start .args .counts) (now (start .args .bytes)) (start .args .terms) _ whole _ filled;
+      left = rw (eq-eqb _ _ whole) (filled ∙ all-entries (start .args .counts) (now (start .args .bytes)) (start .args .terms) _ whole);
+    }
 
 pub read-fares-spec : {M : Type 1} → statement M
 read-fares-spec =

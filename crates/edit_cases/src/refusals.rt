@@ -49,17 +49,26 @@ fn run_short(name: &[u8]) {
     );
 }
 
-fn books() {
+fn bad_headers() {
     let asked = from_zero(3, 65535);
     run_short(b"a book of 16 bytes");
     run_damaged(b"mark MTB", 0, 21581, asked, 2, 0);
     run_damaged(b"version 2", 3, 2, asked, 3, 0);
     run_damaged(b"2049 links", 9, 2049, asked, 4, 0);
     run_damaged(b"4 links, length of 5", 9, 4, asked, 5, 0);
+}
+
+fn bad_entries() {
+    let asked = from_zero(3, 65535);
     run_damaged(b"headway 7201", 19, 7201, asked, 6, 1);
     run_damaged(b"ride 36001", 51, 36001, asked, 7, 3);
     run_damaged(b"walk 3601", 83, 3601, asked, 8, 3);
     run_damaged(b"extra 3601", 95, 3601, asked, 9, 0);
+}
+
+fn books() {
+    bad_headers();
+    bad_entries();
     let wrong = Asked {
         origin: 4,
         turn: 5,
@@ -107,7 +116,7 @@ fn nodes_and_turns() {
     run_asked(b"new walk 65534", 0, change, from(0, 3, 65534), 11);
 }
 
-fn order() {
+fn two_faults() {
     let short = Change::Shorter(TURN_COST);
     let raised = Change::Raised(LINK_COST, 2, 1);
     run_asked(b"a node and a turn", 0, raised, from(4, 5, 0), 10);
@@ -115,6 +124,10 @@ fn order() {
     run_asked(b"a node and a label", 0, raised, from(4, 3, 0), 10);
     run_asked(b"a turn and a length", 0, short, from(0, 5, 0), 11);
     run_asked(b"a turn and a label", 0, raised, from(0, 5, 0), 11);
+}
+
+fn with_a_length() {
+    let short = Change::Shorter(TURN_COST);
     run_asked(b"a walk and a length", 0, short, from(0, 3, 3601), 11);
     run_asked(b"a length and labels of 1", 1, short, from(0, 3, 0), 12);
     run_asked(
@@ -125,6 +138,11 @@ fn order() {
         10,
     );
     run_asked(b"a walk, a length, labels", 1, short, from(0, 3, 65534), 11);
+}
+
+fn order() {
+    two_faults();
+    with_a_length();
 }
 
 fn run_length(name: &[u8], change: Change) {

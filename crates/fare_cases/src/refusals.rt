@@ -59,13 +59,15 @@ fn books() {
     );
 }
 
-pub fn refused() {
-    lines();
+fn bad_tables() {
     run_bad(b"a bad table", from_to(0, 3, 5), b"17");
     run_bad(b"a bad table, room 4", from_to(0, 3, 4), b"15");
     run_bad(b"a bad table, no walk", from_to(1, 0, 5), b"14");
     run_bad(b"a bad table, equal nodes", from_to(3, 3, 5), b"17");
     run_bad(b"a bad table, no such node", from_to(4, 3, 5), b"10");
+}
+
+fn bad_tables_and_labels() {
     run_bad(
         b"a bad table, one label altered",
         Asked {
@@ -86,5 +88,11 @@ pub fn refused() {
         },
         b"12",
     );
+}
+
+pub fn refused() {
+    lines();
+    bad_tables();
+    bad_tables_and_labels();
     books();
 }

@@ -30,7 +30,7 @@ fn run_a(name: &[u8], origin: u16, destination: u16, room: usize, expected: &[u8
     );
 }
 
-pub fn rides() {
+fn on_two_links() {
     run_two(b"bus 15 km", 1, &[15000, 0, 550, 800], b"650 won");
     run_two(
         b"bus, then rail, 22 km",
@@ -48,9 +48,17 @@ pub fn rides() {
     run_two(b"one metre more", 1, &[10001, 0, 550, 800], b"650 won");
     run_two(b"15,001 m", 1, &[15001, 0, 550, 800], b"750 won");
     run_two(b"no metres", 2, &[0, 0, 550, 800], b"800 won");
+}
+
+fn on_book_a() {
     run_a(b"link 1 ridden twice", 0, 3, 5, b"1000 won");
     run_a(b"the same with more room", 0, 3, 9, b"1000 won");
     run_a(b"one line", 0, 2, 2, b"550 won");
     run_a(b"one link", 2, 1, 1, b"800 won");
     run_a(b"the empty route", 3, 3, 0, b"0 won");
+}
+
+pub fn rides() {
+    on_two_links();
+    on_book_a();
 }

@@ -179,28 +179,48 @@ fn run_listed(name: &[u8], route: &[u16], expected: &[u8]) {
     );
 }
 
-pub fn study() {
+fn first_at_nine_hundred() {
     run_listed(b"route 1", &[0, 1, 4, 8], b"900 won");
     run_listed(b"route 2", &[0, 1, 10, 8], b"900 won");
     run_listed(b"route 3", &[3, 10, 8], b"900 won");
     run_listed(b"route 4", &[0, 1, 2, 7, 8], b"900 won");
     run_listed(b"route 5", &[3, 2, 7, 8], b"900 won");
+}
+
+fn more_at_nine_hundred() {
     run_listed(b"route 6", &[0, 1, 4, 11], b"900 won");
     run_listed(b"route 7", &[0, 1, 10, 11], b"900 won");
     run_listed(b"route 8", &[0, 1, 2, 7, 11], b"900 won");
     run_listed(b"route 9", &[3, 2, 7, 11], b"900 won");
+}
+
+fn first_at_a_thousand() {
     run_listed(b"route 10", &[3, 4, 8], b"1000 won");
     run_listed(b"route 11", &[9, 4, 8], b"1000 won");
     run_listed(b"route 12", &[9, 10, 8], b"1000 won");
     run_listed(b"route 13", &[9, 2, 7, 8], b"1000 won");
     run_listed(b"route 14", &[3, 4, 11], b"1000 won");
+}
+
+fn more_at_a_thousand() {
     run_listed(b"route 15", &[3, 10, 11], b"1000 won");
     run_listed(b"route 16", &[9, 10, 11], b"1000 won");
     run_listed(b"route 17", &[0, 1, 4, 5, 6], b"1000 won");
     run_listed(b"route 18", &[0, 1, 10, 5, 6], b"1000 won");
     run_listed(b"route 19", &[0, 1, 2, 7, 5, 6], b"1000 won");
+}
+
+fn at_eleven_hundred() {
     run_listed(b"route 20", &[3, 4, 5, 6], b"1100 won");
     run_listed(b"route 21", &[9, 4, 5, 6], b"1100 won");
     run_listed(b"route 22", &[9, 10, 5, 6], b"1100 won");
     run_listed(b"route 23", &[9, 2, 7, 5, 6], b"1100 won");
+}
+
+pub fn study() {
+    first_at_nine_hundred();
+    more_at_nine_hundred();
+    first_at_a_thousand();
+    more_at_a_thousand();
+    at_eleven_hundred();
 }

@@ -54,27 +54,39 @@ fn no_room() {
     );
 }
 
-pub fn fares() {
+fn right_tables() {
     run_file(b"fares-of-book-a.input", b"0 342 5 0 1 3 1 2, then 1000");
     run_file(b"equal-nodes.input", b"0 0 0, then 0");
     run_file(b"no-permitted-walk.input", b"14 0");
     run_file(b"no-such-node.input", b"10 0");
+}
+
+fn bad_tables() {
     run_file(b"table-a-byte-short.input", b"17 0");
     run_file(b"table-three-bytes-long.input", b"17 0");
     run_file(b"table-an-entry-short.input", b"17 0");
     run_file(b"table-an-entry-long.input", b"17 0");
     run_file(b"no-table.input", b"17 0");
     run_file(b"step-nought.input", b"17 0");
-    run_file(
-        b"metres-past-sixteen-bits.input",
-        b"0 342 5 0 1 3 1 2, then 2300",
-    );
+}
+
+fn cut_short() {
     run_file(b"nineteen-bytes.input", b"1 0");
     run_file(b"twenty-bytes.input", b"1 0");
     run_file(b"book-of-no-bytes.input", b"1 0");
     run_file(b"book-a-byte-short.input", b"5 0");
     run_file(b"input-ends-in-the-book.input", b"5 0");
     run_file(b"book-past-the-input.input", b"5 0");
+}
+
+pub fn fares() {
+    right_tables();
+    bad_tables();
+    run_file(
+        b"metres-past-sixteen-bits.input",
+        b"0 342 5 0 1 3 1 2, then 2300",
+    );
+    cut_short();
     dearest();
     no_room();
 }

@@ -6,8 +6,11 @@ from pathlib import Path
 
 import counting
 import planner
+import scripts
 
-EXPECTED = Path(__file__).resolve().parents[2] / "crates" / "faults" / "stdout"
+CRATES = Path(__file__).resolve().parents[2] / "crates"
+EXPECTED = CRATES / "faults" / "stdout"
+SCRIPTS = CRATES / "desk" / "data"
 
 USAGE = """usage: python3 tools/second_planner QUESTION
 
@@ -19,7 +22,9 @@ fare BOOK ORIGIN DESTINATION FARES          the fare printer's lines; FARES as f
 edit BOOK ORIGIN TURN WALK                  the two counts, then the labels of the edited book; WALK may be 'closed'
 sheet [FILE], fare-sheet [FILE]             what the printers print for such an input, or for standard input
 faults                                      what the program `faults` should print
-compare                                     whether that is its file stdout"""
+compare                                     whether that is its file stdout
+scripts [FOLDER]                            writes the drawn scripts for the program `desk`, to crates/desk/data
+scripts-same                                whether those in crates/desk/data are what it makes"""
 
 
 def given(names):
@@ -106,6 +111,19 @@ def compare():
         sys.exit("crates/faults/stdout is not what the second planner gives")
 
 
+def write_scripts(folder=SCRIPTS):
+    for name, text in scripts.scripts():
+        Path(folder, name).write_bytes(text.encode())
+
+
+def compare_scripts():
+    made = {name: text.encode() for name, text in scripts.scripts()}
+    differ = [name for name, text in made.items() if not (SCRIPTS / name).exists() or (SCRIPTS / name).read_bytes() != text]
+    if differ:
+        sys.exit(f"not what the second planner makes: {' '.join(differ)}")
+    print(f"crates/desk/data has what the second planner makes, {len(made)} scripts")
+
+
 QUESTIONS = {
     "check": check,
     "labels": labels,
@@ -117,6 +135,8 @@ QUESTIONS = {
     "fare-sheet": fare_sheet,
     "faults": faults,
     "compare": compare,
+    "scripts": write_scripts,
+    "scripts-same": compare_scripts,
 }
 
 

@@ -13,18 +13,8 @@ pub fn put(bytes: &mut [u8], at: usize, value: u16) -> usize {
     at + 2
 }
 
-pub fn put_all(bytes: &mut [u8], at: usize, numbers: &[u16]) -> usize {
-    let mut at = at;
-    let mut passed = 0;
-    'numbers: while passed < numbers.len() {
-        at = put(bytes, at, numbers[passed]);
-        passed += 1;
-    }
-    at
-}
-
 // The letters `LTB`.
-pub fn put_mark(bytes: &mut [u8]) -> usize {
+fn put_mark(bytes: &mut [u8]) -> usize {
     let length = bytes.len();
     if length < 3 {
         return length;
@@ -53,50 +43,4 @@ pub fn put_header(
     let at = put(bytes, at, turns);
     let at = put(bytes, at, pairs);
     put(bytes, at, carry_over)
-}
-
-pub fn put_link(bytes: &mut [u8], at: usize, from: u16, to: u16, line: u16, ride: u16) -> usize {
-    let at = put(bytes, at, from);
-    let at = put(bytes, at, to);
-    let at = put(bytes, at, line);
-    put(bytes, at, ride)
-}
-
-// A turn or a pair.
-pub fn put_three(bytes: &mut [u8], at: usize, first: u16, second: u16, seconds: u16) -> usize {
-    let at = put(bytes, at, first);
-    let at = put(bytes, at, second);
-    put(bytes, at, seconds)
-}
-
-fn put_links_a(bytes: &mut [u8], at: usize) -> usize {
-    let at = put_link(bytes, at, 0, 1, 0, 40);
-    let at = put_link(bytes, at, 1, 2, 0, 50);
-    let at = put_link(bytes, at, 2, 3, 0, 30);
-    let at = put_link(bytes, at, 2, 1, 1, 60);
-    put_link(bytes, at, 0, 2, 1, 400)
-}
-
-fn put_turns_a(bytes: &mut [u8], at: usize) -> usize {
-    let at = put_three(bytes, at, 0, 1, 0);
-    let at = put_three(bytes, at, 1, 2, 5);
-    let at = put_three(bytes, at, 1, 3, 0);
-    let at = put_three(bytes, at, 3, 1, 4);
-    put_three(bytes, at, 4, 2, 9)
-}
-
-// Document 01, "Book A".
-pub fn put_book_a(bytes: &mut [u8]) -> usize {
-    let at = put_header(bytes, 4, 2, 5, 5, 1, 100);
-    let at = put(bytes, at, 0);
-    let at = put(bytes, at, 5);
-    let at = put_links_a(bytes, at);
-    let at = put_turns_a(bytes, at);
-    put_three(bytes, at, 0, 1, 65535)
-}
-
-pub fn book_a() -> [u8; 97] {
-    let mut book = [0u8; 97];
-    put_book_a(&mut book);
-    book
 }

@@ -16,21 +16,10 @@ pub const LINK_LINKS: usize = 4;
 
 pub const LINK_BACK: usize = 5;
 
-// Raises a number to the one before it, round at the bottom.
-pub const ONE_LESS: u32 = 4294967295;
-
 pub enum Change {
     Nothing,
     // A buffer, a place in it, and how much is added there, round at the top.
     Raised(usize, usize, u32),
-    // Every entry has this cost, these links and this back.
-    Filled(u32, u16, u16),
-    // Small numbers that go up and down.
-    Patterned,
-    // The costs stay; links and backs are 0.
-    CostsAlone,
-    // One turn's entry says that there is no walk.
-    Wiped(usize),
     // A buffer that is lent with one number more than the book has entries.
     Longer(usize),
     Shorter(usize),
@@ -71,52 +60,10 @@ fn raise_in(
     }
 }
 
-fn fill_costs(cost: &mut [u32], value: u32) {
-    let mut at = 0;
-    'costs: while at < cost.len() {
-        cost[at] = value;
-        at += 1;
-    }
-}
-
-fn fill(numbers: &mut [u16], value: u16) {
-    let mut at = 0;
-    'numbers: while at < numbers.len() {
-        numbers[at] = value;
-        at += 1;
-    }
-}
-
-fn put_pattern(numbers: &mut [u16]) {
-    let mut at = 0;
-    'numbers: while at < numbers.len() {
-        numbers[at] = (at % 7 * 3 % 5) as u16;
-        at += 1;
-    }
-}
-
 // The entry of what no walk reaches.
 pub const NO_COST: u32 = 4294967295;
 
 pub const NO_BACK: u16 = 65535;
-
-fn store_cost(cost: &mut [u32], at: usize, value: u32) {
-    if at < cost.len() {
-        cost[at] = value;
-    }
-}
-
-fn store(numbers: &mut [u16], at: usize, value: u16) {
-    if at < numbers.len() {
-        numbers[at] = value;
-    }
-}
-
-fn wipe(cost: &mut [u32], links: &mut [u16], back: &mut [u16], at: usize) {
-    store_cost(cost, at, NO_COST);
-    store(links, at, 0);
-    store(back, at, NO_BACK);
-}
 
 // Changes one table, whose first buffer is `first` of the six.
 pub fn change_table(
@@ -130,25 +77,6 @@ pub fn change_table(
         Change::Raised(buffer, at, more) => {
             if first <= buffer {
                 raise_in(buffer - first, at, more, cost, links, back);
-            }
-        }
-        Change::Filled(seconds, count, turn) => {
-            fill_costs(cost, seconds);
-            fill(links, count);
-            fill(back, turn);
-        }
-        Change::Patterned => {
-            fill_costs(cost, 100);
-            put_pattern(links);
-            put_pattern(back);
-        }
-        Change::CostsAlone => {
-            fill(links, 0);
-            fill(back, 0);
-        }
-        Change::Wiped(at) => {
-            if first == TURN_COST {
-                wipe(cost, links, back, at);
             }
         }
         _ => {}

@@ -1,0 +1,177 @@
+"""The files beside the desk's scripts, each built from its description: tables of numbers, and no rule of the planner.
+
+python3 tools/second_planner/files.py          says which files of crates/desk/data differ from their description
+python3 tools/second_planner/files.py write    writes them
+"""
+
+import sys
+from pathlib import Path
+
+FOLDER = Path(__file__).resolve().parents[2] / "crates" / "desk" / "data"
+CLOSED = FORBIDDEN = 65535
+NO_WALK, NO_BACK, START = 4294967295, 65535, 65534
+
+
+def written(numbers, length=2):
+    return b"".join(number.to_bytes(length, "little") for number in numbers)
+
+
+def book(nodes, carry_over, headways, links, turns, pairs):
+    tables = links, turns, pairs
+    counts = nodes, len(headways), *(len(table) for table in tables), carry_over
+    entries = (number for table in tables for entry in table for number in entry)
+    return b"LTB" + written((1, *counts, *headways, *entries))
+
+
+# Document 01, "Book A"
+
+BOOK_A = book(
+    nodes=4, carry_over=100, headways=(0, 5),
+    links=((0, 1, 0, 40), (1, 2, 0, 50), (2, 3, 0, 30), (2, 1, 1, 60), (0, 2, 1, 400)),
+    turns=((0, 1, 0), (1, 2, 5), (1, 3, 0), (3, 1, 4), (4, 2, 9)),
+    pairs=((0, 1, FORBIDDEN),))
+
+
+# Full-size books
+
+def largest():
+    """Every count at its limit, and every figure that is free: link k and link k + 1,024 lead from node k to the next
+    one of a ring, each of them changes to the two links that leave there, and every second change is closed."""
+    def second_link(turn):
+        return (turn // 2 + 1) % 1024 + 1024 * (turn % 2)
+
+    def seconds(number):
+        return 3600 if number % 2 == 0 else 65535
+
+    return book(
+        nodes=1024, carry_over=3600, headways=[7200] * 256,
+        links=[(link % 1024, (link + 1) % 1024, link % 256, 36000) for link in range(2048)],
+        turns=[(turn // 2, second_link(turn), seconds(turn)) for turn in range(4096)],
+        pairs=[(turn, 2 * second_link(turn), seconds(turn)) for turn in range(2048)])
+
+
+def chain():
+    """One walk of 2,048 links: along 1,024 nodes, back to node 1 and on again, so that nothing else leaves node 0."""
+    nodes = [*range(1024), *range(1022, 0, -1), *range(2, 5)]
+    return book(
+        nodes=1024, carry_over=5, headways=(1,),
+        links=[(nodes[link], nodes[link + 1], 0, 3) for link in range(2048)],
+        turns=[(turn, turn + 1, 2) for turn in range(2047)],
+        pairs=[(turn, turn + 1, 9) for turn in range(0, 2046, 2)])
+
+
+def fan():
+    """The most successive turns: one link across and 2,047 back, each a second shorter than the one before it. Whoever
+    came by one of them may not leave by it again."""
+    across = [(0, link, 4) for link in range(1, 2048)]
+    back = [(link, 0, 4) for link in range(1, 2048)]
+    return book(
+        nodes=2, carry_over=6, headways=(3,),
+        links=[(0, 1, 0, 20), *((1, 0, 0, 3000 - link) for link in range(1, 2048))],
+        turns=across + back,
+        pairs=[(0, 2047, 50), *((2047 + turn, turn, FORBIDDEN) for turn in range(2047))])
+
+
+# What the printers read: origin, destination, then a book; for a fare also its terms and the book's length before the
+# book, and metres per link and basic fare per line after it
+
+def asked(origin, destination, book):
+    return written((origin, destination)) + book
+
+
+def asked_fare(origin, destination, basic_distance, step, premium, book, metres, basic_fares):
+    terms = basic_distance, step, premium, len(book)
+    return written((origin, destination)) + written(terms, 4) + book + written((*metres, *basic_fares), 4)
+
+
+# Scripts that are one line over and over
+
+def walk_between(length):
+    """From node 1 by links 1 and 3 of book A in turn."""
+    return " ".join(["cost 1", *("1" if place % 2 == 0 else "3" for place in range(length))])
+
+
+LONGEST_WALKS = f"""\
+# The cost of a given walk: from node 1 round and round by links 1 and 3 of book A. Each turn from 3 to 1 has the only walk.
+open book-a.book
+# as many links as the longest chosen walk can have
+{walk_between(4097)} = 0 239666
+{walk_between(65535)} = 0 3833789
+# no walk of more links is costed
+{walk_between(65536)} = too long
+same book-a.book = yes
+"""
+
+# Book A's true entries by origin: first the turns', then the links'.
+ABSENT = NO_WALK, 0, NO_BACK
+ENTRIES = {
+    0: (((90, 2, START), (342, 5, 3), (153, 3, 0), (207, 4, 2), (442, 2, START)),
+        ((40, 1, START), (90, 2, 0), (342, 5, 1), (153, 3, 2), (403, 1, START))),
+    1: ((ABSENT, (85, 2, START), (113, 2, START), (167, 3, 2), ABSENT),
+        (ABSENT, (50, 1, START), (85, 2, 1), (113, 2, 2), ABSENT)),
+    2: ((ABSENT, (252, 3, 3), (180, 3, 3), (117, 2, START), ABSENT),
+        (ABSENT, (117, 2, 3), (30, 1, START), (63, 1, START), ABSENT)),
+    3: ((ABSENT,) * 5, (ABSENT,) * 5),
+}
+FIELDS = ("cost", 2 ** 32), ("links", 2 ** 16), ("back", 2 ** 16)
+
+
+def all_figures(entries):
+    return " ".join(str(figure) for entry in entries for figure in entry)
+
+
+def altered(origin, more):
+    """Each of the 30 numbers in its turn: raised, asked with, and as it was."""
+    for name, entries in zip(("turn", "link"), ENTRIES[origin]):
+        for field, (field_name, numbers) in enumerate(FIELDS):
+            for number, entry in enumerate(entries):
+                alter = f"alter {name}-{field_name} {number}"
+                yield f"{alter} {(entry[field] + more) % numbers}\nroute {origin} 3 5 = 13 0\n{alter} {entry[field]}\n"
+
+
+def alterations():
+    yield ("# Document 01, \"Run by a program\": one altered back gives 13, and so does every other number of the labels. Each of\n"
+           "# book A's 30 is altered by one, round at its limit, and put back, before a route to 3 is asked for anew.\n"
+           "open book-a.book\n# what 13 leaves in the route buffer\n"
+           "search 0 = 0\nroute 0 3 5 = 0 342 5 0 1 3 1 2\n")
+    for origin, more in (0, 1), (0, -1), (1, 1), (2, -1), (3, 1):
+        turns, links = ENTRIES[origin]
+        yield f"\n# from {origin}, one {'more' if more > 0 else 'less'}\nsearch {origin} = 0\n"
+        yield from altered(origin, more)
+        yield f"turns = {all_figures(turns)}\nlinks = {all_figures(links)}\nroom = 0 1 3 1 2\n"
+
+
+def files(folder=FOLDER):
+    """Name and bytes of each; what is made from the three papers' books and from longest.book finds them in the folder."""
+    yield "book-a.book", BOOK_A
+    yield "largest.book", largest()
+    yield "chain.book", chain()
+    yield "fan.book", fan()
+    yield "book-a.input", asked(0, 3, BOOK_A)
+    yield "asked.input", asked(0, 3, BOOK_A)  # as sheet.desk, which writes it, leaves it
+    yield "largest.input", asked(0, 1, largest())
+    yield "fares-of-book-a.input", asked_fare(
+        0, 3, 10000, 5000, 100, BOOK_A, metres=(4000, 3000, 5000, 2000, 9000), basic_fares=(550, 800))
+    for name, origin, destination in (("004-fig10-dummies", 0, 5), ("001-fig2", 0, 11), ("002-fig1", 0, 2), ("longest", 1022, 1023)):
+        yield f"{name}.input", asked(origin, destination, (folder / f"{name}.book").read_bytes())
+    yield "dearest.input", asked_fare(
+        1022, 1023, 0, 1, 100000, (folder / "longest.book").read_bytes(), metres=[200000] * 2048, basic_fares=[100000] * 256)
+    yield "longest-walk.desk", LONGEST_WALKS.encode()
+    yield "altered.desk", "".join(alterations()).encode()
+
+
+def main(words):
+    if words == ["write"]:
+        for name, content in files():
+            (FOLDER / name).write_bytes(content)
+        return
+    if words:
+        sys.exit(__doc__)
+    differing = [name for name, content in files() if not (FOLDER / name).is_file() or (FOLDER / name).read_bytes() != content]
+    if differing:
+        sys.exit("not as described: " + ", ".join(differing))
+    print(f"{len(list(files()))} files are as described")
+
+
+if __name__ == "__main__":
+    main(sys.argv[1:])

@@ -11,7 +11,7 @@ cannot() {
 built() {
     rt=$(command -v rt) || cannot "the Rattle kit's rt is not on the path"
     program=$root/target/bin/$1
-    if [ ! -f "$program" ] || [ -n "$(find "$root/crates" "$root/crates.txt" -newer "$program" | head -n 1)" ]; then
+    if [ ! -f "$program" ] || [ -n "$(find "$root/crates" "$root/crates.txt" \( -name '*.rt' -o -name '*.antt' -o -name crates.txt \) -newer "$program" | head -n 1)" ]; then
         echo "$me: proving and building the $2, which takes some minutes" >&2
         mkdir -p "$root/target"
         # the program gets the time before its check, so that a file changed meanwhile is seen

@@ -6,93 +6,101 @@ from pathlib import Path
 
 import counting
 import planner
-import scripts
+from desk import TWO_BYTES, Desk, Fault, answers_expected, held, number_of, tally
+from files import files
+from scripts import scripts
 
 CRATES = Path(__file__).resolve().parents[2] / "crates"
 EXPECTED = CRATES / "faults" / "stdout"
-SCRIPTS = CRATES / "desk" / "data"
+DESK = CRATES / "desk"
 
 USAGE = """usage: python3 tools/second_planner QUESTION
 
 check BOOK                                  number and place, or 0 and nodes, lines, links, turns, pairs, carry-over
-labels BOOK ORIGIN                          each turn's entry, then each link's: cost, links, back
-cost BOOK ORIGIN LINK..                     the cost of a given walk
+labels BOOK ORIGIN                          0, then each turn's entry and each link's: cost, links, back
+cost BOOK ORIGIN LINK..                     0 and the cost of a given walk, or 'not permitted'
 route BOOK ORIGIN DESTINATION               the route printer's line
 fare BOOK ORIGIN DESTINATION FARES          the fare printer's lines; FARES as for ./plan
-edit BOOK ORIGIN TURN WALK                  the two counts, then the labels of the edited book; WALK may be 'closed'
+edit BOOK ORIGIN TURN WALK                  0 and two counts, then the labels of the edited book; WALK may be 'closed'
 sheet [FILE], fare-sheet [FILE]             what the printers print for such an input, or for standard input
 faults                                      what the program `faults` should print
 compare                                     whether that is its file stdout
-scripts [FOLDER]                            writes the drawn scripts for the program `desk`, to crates/desk/data
-scripts-same                                whether those in crates/desk/data are what it makes"""
+data [FOLDER]                               writes what is made for the program `desk`: in crates/desk, or in FOLDER,
+                                            args, stdout, and the made scripts and files of data
+data-same                                   whether crates/desk has what it makes
+desk SCRIPT..                               holds scripts for the program `desk` against the second planner"""
 
 
-def given(names):
-    return Path(names[0]).read_bytes() if names else sys.stdin.buffer.read()
+def given(name):
+    return sys.stdin.buffer.read() if name is None else Path(name).read_bytes()
 
 
-def two_bytes(*words):
-    return b"".join(int(word).to_bytes(2, "little") for word in words)
+# A book's answers
+
+def desk_with(name):
+    desk = Desk()
+    desk.put(Path(name).read_bytes())
+    return desk
+
+
+def print_labels(desk):
+    for table in ("turn", "link"):
+        for number in range(desk.entries(table + "s")):
+            print(table, number, desk.asked(f"{table} {number}"))
 
 
 def check(name):
-    number, place, counts = planner.check(given([name]))
-    print(*((number, place) if number else (number, *counts)))
-
-
-def print_labels(book, origin):
-    _, _, counts = planner.check(book)
-    labels = planner.Labels(*([0] * count for count in [counts.turns] * 3 + [counts.links] * 3))
-    print(*planner.search(book, origin, labels))
-    for name, table in (("turn", labels[:3]), ("link", labels[3:])):
-        for number, entry in enumerate(zip(*table)):
-            print(name, number, *entry)
+    print(desk_with(name).asked("check"))
 
 
 def labels(name, origin):
-    book = given([name])
-    number, place, _ = planner.check(book)
-    if number:
-        print(number, place)
-    else:
-        print_labels(book, int(origin))
+    desk = desk_with(name)
+    answer = desk.asked(f"search {origin}")
+    print(answer)
+    if answer == "0":
+        print_labels(desk)
 
 
 def cost(name, origin, *links):
-    print(*planner.cost_of_walk(given([name]), int(origin), [int(link) for link in links]))
-
-
-def route(name, origin, destination):
-    print(planner.sheet(two_bytes(origin, destination) + given([name])), end="")
-
-
-def fare(name, origin, destination, fares):
-    book, table = given([name]), given([fares])
-    beside = table[:12] + len(book).to_bytes(4, "little")
-    print(planner.fare_sheet(two_bytes(origin, destination) + beside + book + table[12:]), end="")
+    print(desk_with(name).asked(" ".join(["cost", origin, *links])))
 
 
 def edit(name, origin, turn, walk):
-    book = bytearray(given([name]))
-    number, place, counts = planner.check(book)
-    if number:
-        print(number, place)
-        return
-    lent = planner.Labels(*([0] * count for count in [counts.turns] * 3 + [counts.links] * 3))
-    planner.search(book, int(origin), lent)
-    answer = planner.edit(book, int(origin), int(turn), planner.CLOSED if walk == "closed" else int(walk), lent)
-    print(*answer)
-    if answer[0] == 0:
-        print_labels(book, int(origin))
+    desk = desk_with(name)
+    desk.asked(f"search {origin}")
+    answer = desk.asked(f"edit {origin} {turn} {walk}")
+    print(answer)
+    if answer.startswith("0 "):
+        print_labels(desk)
 
 
-def sheet(*names):
-    print(planner.sheet(given(names)), end="")
+# The printers' lines
+
+def written(*words):
+    return b"".join(number_of(word, TWO_BYTES).to_bytes(2, "little") for word in words)
 
 
-def fare_sheet(*names):
-    print(planner.fare_sheet(given(names)), end="")
+def route(name, origin, destination):
+    print(planner.sheet(written(origin, destination) + Path(name).read_bytes()), end="")
 
+
+def fare(name, origin, destination, fares):
+    book, table = Path(name).read_bytes(), Path(fares).read_bytes()
+    if len(table) < 12:
+        sys.exit(f"{fares}: a fare file has twelve bytes or more")
+    terms = table[:12] + len(book).to_bytes(4, "little")
+    print(planner.fare_sheet(written(origin, destination) + terms + book + table[12:]), end="")
+
+
+def sheet(name=None):
+    print(planner.sheet(given(name)), end="")
+
+
+def fare_sheet(name=None):
+    print(planner.fare_sheet(given(name)), end="")
+
+
+# What the program `faults` counts
 
 def faults():
     for line in counting.counted().lines():
@@ -111,17 +119,44 @@ def compare():
         sys.exit("crates/faults/stdout is not what the second planner gives")
 
 
-def write_scripts(folder=SCRIPTS):
-    for name, text in scripts.scripts():
-        Path(folder, name).write_bytes(text.encode())
+# What the program `desk` reads and prints
+
+def made():
+    """By name in crates/desk; args and stdout are for all scripts of data, those written by hand too."""
+    data = dict(files(DESK / "data"))
+    data.update((name, text.encode()) for name, text in scripts())
+    by_hand = {path.name: path.read_bytes() for path in (DESK / "data").glob("*.desk")}
+    all_scripts = {name: script for name, script in sorted({**by_hand, **data}.items()) if name.endswith(".desk")}
+    tallies = [tally(name, answers_expected(script), 0) for name, script in all_scripts.items()]
+    return {
+        "args": "".join(f"{name}\n" for name in all_scripts).encode(),
+        "stdout": "".join(f"{line}\n" for line in tallies).encode(),
+        **{f"data/{name}": content for name, content in data.items()},
+    }
 
 
-def compare_scripts():
-    made = {name: text.encode() for name, text in scripts.scripts()}
-    differ = [name for name, text in made.items() if not (SCRIPTS / name).exists() or (SCRIPTS / name).read_bytes() != text]
+def write_data(folder=DESK):
+    Path(folder, "data").mkdir(parents=True, exist_ok=True)
+    for name, content in made().items():
+        Path(folder, name).write_bytes(content)
+
+
+def compare_data():
+    expected = made()
+    differ = [name for name, content in expected.items()
+              if not (DESK / name).is_file() or (DESK / name).read_bytes() != content]
     if differ:
-        sys.exit(f"not what the second planner makes: {' '.join(differ)}")
-    print(f"crates/desk/data has what the second planner makes, {len(made)} scripts")
+        sys.exit(f"not what the second planner makes, in crates/desk: {' '.join(differ)}")
+    print(f"crates/desk has what the second planner makes, {len(expected)} files")
+
+
+def hold(script, *more_scripts):
+    status = 0
+    for path in map(Path, (script, *more_scripts)):
+        right, reports = held(path)
+        print(*reports, tally(path.name, right, len(reports)), sep="\n", flush=True)
+        status = 1 if reports else status
+    sys.exit(status)
 
 
 QUESTIONS = {
@@ -135,12 +170,14 @@ QUESTIONS = {
     "fare-sheet": fare_sheet,
     "faults": faults,
     "compare": compare,
-    "scripts": write_scripts,
-    "scripts-same": compare_scripts,
+    "data": write_data,
+    "data-same": compare_data,
+    "desk": hold,
 }
 
 
 def main(words):
+    sys.stdout.reconfigure(errors="backslashreplace")  # a file's name can have bytes that are no text
     if not words or words[0] in ("-h", "--help"):
         print(USAGE)
         return
@@ -154,9 +191,9 @@ def main(words):
     try:
         question(*words[1:])
     except OSError as error:
-        sys.exit(f"{error.filename}: {error.strerror}")
-    except (OverflowError, ValueError):
-        sys.exit("a number is not one, or has more than two bytes")
+        sys.exit(f"{error.filename or 'output'}: {error.strerror}")
+    except Fault as fault:
+        sys.exit(f"{words[0]}: {fault}")
 
 
 main(sys.argv[1:])

@@ -1,14 +1,6 @@
-"""The files beside the desk's scripts, each built from its description: tables of numbers, and no rule of the planner.
+"""Files beside the desk's scripts, and two scripts, each built from its description; no rule of the planner is here."""
 
-python3 tools/second_planner/files.py          says which files of crates/desk/data differ from their description
-python3 tools/second_planner/files.py write    writes them
-"""
-
-import sys
-from pathlib import Path
-
-FOLDER = Path(__file__).resolve().parents[2] / "crates" / "desk" / "data"
-CLOSED = FORBIDDEN = 65535
+FORBIDDEN = 65535
 NO_WALK, NO_BACK, START = 4294967295, 65535, 65534
 
 
@@ -92,7 +84,8 @@ def walk_between(length):
 
 
 LONGEST_WALKS = f"""\
-# The cost of a given walk: from node 1 round and round by links 1 and 3 of book A. Each turn from 3 to 1 has the only walk.
+# The cost of a given walk: from node 1 round and round by links 1 and 3 of book A. Each turn from 3 to 1 has the only \
+walk.
 open book-a.book
 # as many links as the longest chosen walk can have
 {walk_between(4097)} = 0 239666
@@ -129,11 +122,18 @@ def altered(origin, more):
                 yield f"{alter} {(entry[field] + more) % numbers}\nroute {origin} 3 5 = 13 0\n{alter} {entry[field]}\n"
 
 
+BEFORE_ALTERATIONS = """\
+# Document 01, "Run by a program": one altered back gives 13, and so does every other number of the labels. Each of
+# book A's 30 is altered by one, round at its limit, and put back, before a route to 3 is asked for anew.
+open book-a.book
+# what 13 leaves in the route buffer
+search 0 = 0
+route 0 3 5 = 0 342 5 0 1 3 1 2
+"""
+
+
 def alterations():
-    yield ("# Document 01, \"Run by a program\": one altered back gives 13, and so does every other number of the labels. Each of\n"
-           "# book A's 30 is altered by one, round at its limit, and put back, before a route to 3 is asked for anew.\n"
-           "open book-a.book\n# what 13 leaves in the route buffer\n"
-           "search 0 = 0\nroute 0 3 5 = 0 342 5 0 1 3 1 2\n")
+    yield BEFORE_ALTERATIONS
     for origin, more in (0, 1), (0, -1), (1, 1), (2, -1), (3, 1):
         turns, links = ENTRIES[origin]
         yield f"\n# from {origin}, one {'more' if more > 0 else 'less'}\nsearch {origin} = 0\n"
@@ -141,8 +141,8 @@ def alterations():
         yield f"turns = {all_figures(turns)}\nlinks = {all_figures(links)}\nroom = 0 1 3 1 2\n"
 
 
-def files(folder=FOLDER):
-    """Name and bytes of each; what is made from the three papers' books and from longest.book finds them in the folder."""
+def files(folder):
+    """Name and bytes of each; the folder has the books that are not made here: three papers' books and longest.book."""
     yield "book-a.book", BOOK_A
     yield "largest.book", largest()
     yield "chain.book", chain()
@@ -152,26 +152,11 @@ def files(folder=FOLDER):
     yield "largest.input", asked(0, 1, largest())
     yield "fares-of-book-a.input", asked_fare(
         0, 3, 10000, 5000, 100, BOOK_A, metres=(4000, 3000, 5000, 2000, 9000), basic_fares=(550, 800))
-    for name, origin, destination in (("004-fig10-dummies", 0, 5), ("001-fig2", 0, 11), ("002-fig1", 0, 2), ("longest", 1022, 1023)):
-        yield f"{name}.input", asked(origin, destination, (folder / f"{name}.book").read_bytes())
+    for name, destination in ("004-fig10-dummies", 5), ("001-fig2", 11), ("002-fig1", 2):
+        yield f"{name}.input", asked(0, destination, (folder / f"{name}.book").read_bytes())
+    longest = (folder / "longest.book").read_bytes()
+    yield "longest.input", asked(1022, 1023, longest)
     yield "dearest.input", asked_fare(
-        1022, 1023, 0, 1, 100000, (folder / "longest.book").read_bytes(), metres=[200000] * 2048, basic_fares=[100000] * 256)
+        1022, 1023, 0, 1, 100000, longest, metres=[200000] * 2048, basic_fares=[100000] * 256)
     yield "longest-walk.desk", LONGEST_WALKS.encode()
     yield "altered.desk", "".join(alterations()).encode()
-
-
-def main(words):
-    if words == ["write"]:
-        for name, content in files():
-            (FOLDER / name).write_bytes(content)
-        return
-    if words:
-        sys.exit(__doc__)
-    differing = [name for name, content in files() if not (FOLDER / name).is_file() or (FOLDER / name).read_bytes() != content]
-    if differing:
-        sys.exit("not as described: " + ", ".join(differing))
-    print(f"{len(list(files()))} files are as described")
-
-
-if __name__ == "__main__":
-    main(sys.argv[1:])

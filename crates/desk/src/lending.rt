@@ -8,15 +8,11 @@ use fare::Won;
 use script::BASIC_DISTANCE;
 use script::FARES;
 use script::LENT_ROOM;
-use script::LINK_BACK;
 use script::LINK_COST;
-use script::LINK_LINKS;
 use script::PREMIUM;
 use script::ROUTE;
 use script::STEP;
-use script::TURN_BACK;
 use script::TURN_COST;
-use script::TURN_LINKS;
 use script::buffer_part;
 use script::copy;
 use script::copy_narrow;
@@ -26,28 +22,54 @@ use script::lent;
 use script::size_of;
 use script::within_figures;
 use script::within_numbers;
+use std::num::wrapping_add_usize;
 
-// How many numbers are lent of each buffer.
+// How many numbers are lent of a table's three buffers.
 struct Lent {
-    turn_costs: usize,
-    turn_counts: usize,
-    turn_backs: usize,
-    link_costs: usize,
-    link_counts: usize,
-    link_backs: usize,
+    costs: usize,
     links: usize,
+    backs: usize,
 }
 
-fn lent_now(book: &[u8], figures: &[u32]) -> Lent {
+// The buffers of a table stand one after the other.
+fn lent_of(book: &[u8], figures: &[u32], first: usize) -> Lent {
     Lent {
-        turn_costs: lent(book, figures, TURN_COST),
-        turn_counts: lent(book, figures, TURN_LINKS),
-        turn_backs: lent(book, figures, TURN_BACK),
-        link_costs: lent(book, figures, LINK_COST),
-        link_counts: lent(book, figures, LINK_LINKS),
-        link_backs: lent(book, figures, LINK_BACK),
-        links: size_of(figures, ROUTE),
+        costs: lent(book, figures, first),
+        links: lent(book, figures, wrapping_add_usize(first, 1)),
+        backs: lent(book, figures, wrapping_add_usize(first, 2)),
     }
+}
+
+fn take_table(
+    figures: &[u32],
+    first: usize,
+    size: Lent,
+    cost: &mut [u32],
+    links: &mut [u16],
+    back: &mut [u16],
+) {
+    copy(buffer_part(figures, first, size.costs), cost);
+    copy_narrow(
+        buffer_part(figures, wrapping_add_usize(first, 1), size.links),
+        links,
+    );
+    copy_narrow(
+        buffer_part(figures, wrapping_add_usize(first, 2), size.backs),
+        back,
+    );
+}
+
+fn keep_table(
+    figures: &mut [u32],
+    first: usize,
+    size: Lent,
+    cost: &[u32],
+    links: &[u16],
+    back: &[u16],
+) {
+    keep_costs(figures, first, cost, size.costs);
+    keep_numbers(figures, wrapping_add_usize(first, 1), links, size.links);
+    keep_numbers(figures, wrapping_add_usize(first, 2), back, size.backs);
 }
 
 pub fn terms_now(figures: &[u32]) -> Terms {
@@ -62,23 +84,25 @@ pub fn terms_now(figures: &[u32]) -> Terms {
 fn lend_parts(
     asked: Asked,
     book: &mut [u8],
-    size: Lent,
+    turns: Lent,
+    links: Lent,
+    room: usize,
     turn_cost: &mut [u32],
     turn_links: &mut [u16],
     turn_back: &mut [u16],
     link_cost: &mut [u32],
     link_links: &mut [u16],
     link_back: &mut [u16],
-    links: &mut [u16],
+    route: &mut [u16],
     fares: &[u32],
 ) -> Told {
-    let turn_costs = within_figures(size.turn_costs, turn_cost);
-    let turn_counts = within_numbers(size.turn_counts, turn_links);
-    let turn_backs = within_numbers(size.turn_backs, turn_back);
-    let link_costs = within_figures(size.link_costs, link_cost);
-    let link_counts = within_numbers(size.link_counts, link_links);
-    let link_backs = within_numbers(size.link_backs, link_back);
-    let room = within_numbers(size.links, links);
+    let turn_costs = within_figures(turns.costs, turn_cost);
+    let turn_counts = within_numbers(turns.links, turn_links);
+    let turn_backs = within_numbers(turns.backs, turn_back);
+    let link_costs = within_figures(links.costs, link_cost);
+    let link_counts = within_numbers(links.links, link_links);
+    let link_backs = within_numbers(links.backs, link_back);
+    let room = within_numbers(room, route);
     put_question(
         asked,
         book,
@@ -88,74 +112,70 @@ fn lend_parts(
         &mut link_cost[..link_costs],
         &mut link_links[..link_counts],
         &mut link_back[..link_backs],
-        &mut links[..room],
+        &mut route[..room],
         fares,
     )
 }
 
-fn take_turns(figures: &[u32], size: Lent, cost: &mut [u32], links: &mut [u16], back: &mut [u16]) {
-    copy(buffer_part(figures, TURN_COST, size.turn_costs), cost);
-    copy_narrow(buffer_part(figures, TURN_LINKS, size.turn_counts), links);
-    copy_narrow(buffer_part(figures, TURN_BACK, size.turn_backs), back);
-}
-
-fn take_links(figures: &[u32], size: Lent, cost: &mut [u32], links: &mut [u16], back: &mut [u16]) {
-    copy(buffer_part(figures, LINK_COST, size.link_costs), cost);
-    copy_narrow(buffer_part(figures, LINK_LINKS, size.link_counts), links);
-    copy_narrow(buffer_part(figures, LINK_BACK, size.link_backs), back);
-}
-
-fn keep_turns(figures: &mut [u32], size: Lent, cost: &[u32], links: &[u16], back: &[u16]) {
-    keep_costs(figures, TURN_COST, cost, size.turn_costs);
-    keep_numbers(figures, TURN_LINKS, links, size.turn_counts);
-    keep_numbers(figures, TURN_BACK, back, size.turn_backs);
-}
-
-fn keep_links(figures: &mut [u32], size: Lent, cost: &[u32], links: &[u16], back: &[u16]) {
-    keep_costs(figures, LINK_COST, cost, size.link_costs);
-    keep_numbers(figures, LINK_LINKS, links, size.link_counts);
-    keep_numbers(figures, LINK_BACK, back, size.link_backs);
-}
-
 pub fn ask(asked: Asked, book: &mut [u8], figures: &mut [u32]) -> Told {
-    let size = lent_now(book, figures);
+    let turns = lent_of(book, figures, TURN_COST);
+    let links = lent_of(book, figures, LINK_COST);
+    let room = size_of(figures, ROUTE);
     let mut turn_cost = [0u32; LENT_ROOM];
     let mut turn_links = [0u16; LENT_ROOM];
     let mut turn_back = [0u16; LENT_ROOM];
     let mut link_cost = [0u32; LENT_ROOM];
     let mut link_links = [0u16; LENT_ROOM];
     let mut link_back = [0u16; LENT_ROOM];
-    let mut links = [0u16; LENT_ROOM];
-    take_turns(
+    let mut route = [0u16; LENT_ROOM];
+    take_table(
         figures,
-        size,
+        TURN_COST,
+        turns,
         &mut turn_cost,
         &mut turn_links,
         &mut turn_back,
     );
-    take_links(
+    take_table(
         figures,
-        size,
+        LINK_COST,
+        links,
         &mut link_cost,
         &mut link_links,
         &mut link_back,
     );
-    copy_narrow(buffer_part(figures, ROUTE, size.links), &mut links);
-    let given = lend_parts(
+    copy_narrow(buffer_part(figures, ROUTE, room), &mut route);
+    let told = lend_parts(
         asked,
         book,
-        size,
+        turns,
+        links,
+        room,
         &mut turn_cost,
         &mut turn_links,
         &mut turn_back,
         &mut link_cost,
         &mut link_links,
         &mut link_back,
-        &mut links,
+        &mut route,
         buffer_part(figures, FARES, size_of(figures, FARES)),
     );
-    keep_turns(figures, size, &turn_cost, &turn_links, &turn_back);
-    keep_links(figures, size, &link_cost, &link_links, &link_back);
-    keep_numbers(figures, ROUTE, &links, size.links);
-    given
+    keep_table(
+        figures,
+        TURN_COST,
+        turns,
+        &turn_cost,
+        &turn_links,
+        &turn_back,
+    );
+    keep_table(
+        figures,
+        LINK_COST,
+        links,
+        &link_cost,
+        &link_links,
+        &link_back,
+    );
+    keep_numbers(figures, ROUTE, &route, room);
+    told
 }

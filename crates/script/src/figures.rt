@@ -8,7 +8,8 @@ use super::text::answer;
 use super::text::done;
 use super::text::fault;
 use super::text::put_figure;
-use check::same;
+use super::words::place_in;
+use std::num::wrapping_add_usize;
 
 // One more than the most turns, and as many as the longest route has links.
 pub const LENT_ROOM: usize = 4097;
@@ -31,7 +32,7 @@ pub const FARES: usize = 7;
 
 pub const LABEL_BUFFERS: usize = 6;
 
-pub const BUFFERS: usize = 8;
+const BUFFERS: usize = 8;
 
 pub const LABEL_FIGURES: usize = LABEL_BUFFERS * LENT_ROOM;
 
@@ -53,33 +54,14 @@ pub const FIGURES: usize = SIZES_FROM + SIZES;
 // A label buffer is lent as the book's header counts.
 pub const AS_COUNTED: usize = 4294967295;
 
-// No buffer has this name.
-pub const NO_BUFFER: usize = 12;
-
-fn turn_buffer(name: &[u8]) -> usize {
-    if same(name, b"turn-cost") {
-        return TURN_COST;
-    }
-    if same(name, b"turn-links") {
-        return TURN_LINKS;
-    }
-    if same(name, b"turn-back") {
-        return TURN_BACK;
-    }
-    NO_BUFFER
-}
+// The buffer of this name, or their number where there is none.
+pub const NO_BUFFER: usize = LABEL_BUFFERS;
 
 pub fn buffer_of(name: &[u8]) -> usize {
-    if same(name, b"link-cost") {
-        return LINK_COST;
-    }
-    if same(name, b"link-links") {
-        return LINK_LINKS;
-    }
-    if same(name, b"link-back") {
-        return LINK_BACK;
-    }
-    turn_buffer(name)
+    place_in(
+        name,
+        b"turn-cost;turn-links;turn-back;link-cost;link-links;link-back;",
+    )
 }
 
 // The figure where a buffer begins.
@@ -160,48 +142,31 @@ fn put_entries(cost: &[u32], links: &[u32], back: &[u32], text: &mut [u8]) -> us
     end
 }
 
-// All entries of a table, by its three buffers.
-pub fn say_turns(figures: &[u32], count: usize, text: &mut [u8]) -> Said {
+// All entries of the table whose first buffer this is.
+pub fn say_entries(figures: &[u32], first: usize, count: usize, text: &mut [u8]) -> Said {
     answer(put_entries(
-        buffer_part(figures, TURN_COST, count),
-        buffer_part(figures, TURN_LINKS, count),
-        buffer_part(figures, TURN_BACK, count),
+        buffer_part(figures, first, count),
+        buffer_part(figures, wrapping_add_usize(first, 1), count),
+        buffer_part(figures, wrapping_add_usize(first, 2), count),
         text,
     ))
 }
 
-pub fn say_links(figures: &[u32], count: usize, text: &mut [u8]) -> Said {
-    answer(put_entries(
-        buffer_part(figures, LINK_COST, count),
-        buffer_part(figures, LINK_LINKS, count),
-        buffer_part(figures, LINK_BACK, count),
-        text,
-    ))
-}
-
-pub fn say_turn(figures: &[u32], turn: usize, count: usize, text: &mut [u8]) -> Said {
-    if count <= turn {
+pub fn say_entry(
+    figures: &[u32],
+    first: usize,
+    entry: usize,
+    count: usize,
+    text: &mut [u8],
+) -> Said {
+    if count <= entry {
         return fault(text, b"no such entry");
     }
     answer(put_entry(
-        buffer_part(figures, TURN_COST, count),
-        buffer_part(figures, TURN_LINKS, count),
-        buffer_part(figures, TURN_BACK, count),
-        turn,
-        text,
-        0,
-    ))
-}
-
-pub fn say_link(figures: &[u32], link: usize, count: usize, text: &mut [u8]) -> Said {
-    if count <= link {
-        return fault(text, b"no such entry");
-    }
-    answer(put_entry(
-        buffer_part(figures, LINK_COST, count),
-        buffer_part(figures, LINK_LINKS, count),
-        buffer_part(figures, LINK_BACK, count),
-        link,
+        buffer_part(figures, first, count),
+        buffer_part(figures, wrapping_add_usize(first, 1), count),
+        buffer_part(figures, wrapping_add_usize(first, 2), count),
+        entry,
         text,
         0,
     ))

@@ -11,14 +11,25 @@ use super::text::fault;
 use super::text::say;
 use super::verbs::Verb;
 use check::same;
+use std::num::wrapping_add_usize;
 
 // One byte more than a book may have, so that a longer file is seen.
 pub const FILE_ROOM: usize = 65537;
 
-// A file's first bytes, or that it cannot be opened.
+// A file's first bytes, or that it cannot be opened or read, as a folder cannot.
 pub enum Contents {
     Bytes(usize),
     NotOpened,
+}
+
+fn read_open(file: i32, bytes: &mut [u8]) -> Contents {
+    let got = libc::read(file, bytes);
+    if got < 0 {
+        return Contents::NotOpened;
+    }
+    let first = io::count(got, bytes);
+    let rest = io::read_full(file, &mut bytes[first..]);
+    Contents::Bytes(wrapping_add_usize(first, rest))
 }
 
 pub fn read_file(name: &[u8], bytes: &mut [u8]) -> Contents {
@@ -26,9 +37,9 @@ pub fn read_file(name: &[u8], bytes: &mut [u8]) -> Contents {
     if file < 0 {
         return Contents::NotOpened;
     }
-    let length = io::read_full(file, bytes);
+    let contents = read_open(file, bytes);
     libc::close(file);
-    Contents::Bytes(length)
+    contents
 }
 
 fn open(bytes: &[u8], book: &mut [u8], figures: &mut [u32], text: &mut [u8]) -> Said {

@@ -10,16 +10,16 @@ use super::figures::BASIC_DISTANCE;
 use super::figures::BOOK;
 use super::figures::FARES;
 use super::figures::LENT_ROOM;
+use super::figures::LINK_COST;
 use super::figures::PREMIUM;
 use super::figures::ROUTE;
 use super::figures::STEP;
+use super::figures::TURN_COST;
 use super::figures::alter;
 use super::figures::buffer_part;
 use super::figures::keep_costs;
-use super::figures::say_link;
-use super::figures::say_links;
-use super::figures::say_turn;
-use super::figures::say_turns;
+use super::figures::say_entries;
+use super::figures::say_entry;
 use super::figures::set_size;
 use super::figures::size_of;
 use super::parts::from_place;
@@ -53,10 +53,22 @@ fn show_figures(
     text: &mut [u8],
 ) -> Said {
     match verb {
-        Verb::Turn => say_turn(figures, size_at(numbers, 0), turns_in(book, figures), text),
-        Verb::Link => say_link(figures, size_at(numbers, 0), links_in(book, figures), text),
-        Verb::Turns => say_turns(figures, turns_in(book, figures), text),
-        Verb::Links => say_links(figures, links_in(book, figures), text),
+        Verb::Turn => say_entry(
+            figures,
+            TURN_COST,
+            size_at(numbers, 0),
+            turns_in(book, figures),
+            text,
+        ),
+        Verb::Link => say_entry(
+            figures,
+            LINK_COST,
+            size_at(numbers, 0),
+            links_in(book, figures),
+            text,
+        ),
+        Verb::Turns => say_entries(figures, TURN_COST, turns_in(book, figures), text),
+        Verb::Links => say_entries(figures, LINK_COST, links_in(book, figures), text),
         _ => answer(put_figures(
             text,
             0,

@@ -3,7 +3,7 @@ use super::books::BOOK_ROOM;
 use super::figures::LENT_ROOM;
 use super::words::MOST;
 use super::words::Wanted;
-use check::same;
+use super::words::place_in;
 
 pub enum Verb {
     Open,
@@ -42,89 +42,48 @@ pub enum Object {
     Numbers,
 }
 
-fn file_verb(word: &[u8]) -> Verb {
-    if same(word, b"open") {
-        return Verb::Open;
+fn showing_or_asking(place: usize) -> Verb {
+    match place {
+        11 => Verb::Turn,
+        12 => Verb::Link,
+        13 => Verb::Turns,
+        14 => Verb::Links,
+        15 => Verb::Room,
+        16 => Verb::Check,
+        17 => Verb::Cost,
+        18 => Verb::Search,
+        19 => Verb::Route,
+        20 => Verb::Fare,
+        21 => Verb::Edit,
+        _ => Verb::Unknown,
     }
-    if same(word, b"save") {
-        return Verb::Save;
-    }
-    if same(word, b"same") {
-        return Verb::Same;
-    }
-    if same(word, b"print") {
-        return Verb::Print;
-    }
-    if same(word, b"print-fare") {
-        return Verb::PrintFare;
-    }
-    Verb::Unknown
 }
 
-fn desk_verb(word: &[u8]) -> Verb {
-    if same(word, b"new") {
-        return Verb::New;
+fn verb_at(place: usize) -> Verb {
+    match place {
+        0 => Verb::Open,
+        1 => Verb::Save,
+        2 => Verb::Same,
+        3 => Verb::Print,
+        4 => Verb::PrintFare,
+        5 => Verb::New,
+        6 => Verb::Number,
+        7 => Verb::Length,
+        8 => Verb::Alter,
+        9 => Verb::Lend,
+        10 => Verb::Fares,
+        _ => showing_or_asking(place),
     }
-    if same(word, b"number") {
-        return Verb::Number;
-    }
-    if same(word, b"length") {
-        return Verb::Length;
-    }
-    if same(word, b"alter") {
-        return Verb::Alter;
-    }
-    if same(word, b"lend") {
-        return Verb::Lend;
-    }
-    if same(word, b"fares") {
-        return Verb::Fares;
-    }
-    file_verb(word)
-}
-
-fn showing_verb(word: &[u8]) -> Verb {
-    if same(word, b"turn") {
-        return Verb::Turn;
-    }
-    if same(word, b"link") {
-        return Verb::Link;
-    }
-    if same(word, b"turns") {
-        return Verb::Turns;
-    }
-    if same(word, b"links") {
-        return Verb::Links;
-    }
-    if same(word, b"room") {
-        return Verb::Room;
-    }
-    desk_verb(word)
 }
 
 pub fn verb_of(word: &[u8]) -> Verb {
     if word.len() == 0 {
         return Verb::Nothing;
     }
-    if same(word, b"check") {
-        return Verb::Check;
-    }
-    if same(word, b"cost") {
-        return Verb::Cost;
-    }
-    if same(word, b"search") {
-        return Verb::Search;
-    }
-    if same(word, b"route") {
-        return Verb::Route;
-    }
-    if same(word, b"fare") {
-        return Verb::Fare;
-    }
-    if same(word, b"edit") {
-        return Verb::Edit;
-    }
-    showing_verb(word)
+    verb_at(place_in(
+        word,
+        b"open;save;same;print;print-fare;new;number;length;alter;lend;fares;turn;link;turns;links;room;check;cost;search;route;fare;edit;",
+    ))
 }
 
 pub fn object_of(verb: Verb) -> Object {

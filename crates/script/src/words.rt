@@ -32,7 +32,7 @@ pub fn word_end(line: &[u8], from: usize) -> usize
 }
 
 // Where a word begins from a place on, or the end.
-pub fn word_from(line: &[u8], from: usize) -> usize
+fn word_from(line: &[u8], from: usize) -> usize
     requires { ⌜ from ≤ length (now line) ⌝ }
     ensures { λ r. ⌜ (from ≤ r) × (r ≤ length (now (line .entry))) ⌝ }
 {
@@ -84,7 +84,37 @@ pub fn word_with(line: &[u8], byte: u8) -> usize
     at
 }
 
-pub enum Number {
+// Where the semicolon behind a word of a list stands, or the end.
+fn item_end(list: &[u8], from: usize) -> usize
+    requires { ⌜ from ≤ length (now list) ⌝ }
+    ensures { λ r. ⌜ (from ≤ r) × (r ≤ length (now (list .entry))) ⌝ }
+{
+    let mut at = from;
+    while at < list.len() {
+        if list[at] == b';' {
+            return at;
+        }
+        at += 1;
+    }
+    at
+}
+
+// Which of the words of a list it is, each with a semicolon behind it; their number where it is none of them.
+pub fn place_in(word: &[u8], list: &[u8]) -> usize {
+    let mut place = 0;
+    let mut from = 0;
+    while from < list.len() {
+        let end = item_end(list, from);
+        if same(word, &list[from..end]) {
+            return place;
+        }
+        place += 1;
+        from = end + 1;
+    }
+    place
+}
+
+enum Number {
     Is(u64),
     Unclear,
 }

@@ -1,6 +1,9 @@
 # What ./plan and ./desk share: a proved program, built where a source is newer than it, and run. They set `root`, the
 # tree's folder, and `me`, the name that a message begins with.
 
+# a folder is the one that is named
+unset CDPATH
+
 # status 3: it cannot run
 cannot() {
     echo "$me: $1" >&2
@@ -16,10 +19,11 @@ built() {
         mkdir -p "$root/target"
         # the program gets the time before its check, so that a file changed meanwhile is seen
         touch "$root/target/$me.mark"
+        rm -f "$root/target/$me.passed"
         {
             (cd "$root" && rt check "$1" 2>&1) && echo passed >"$root/target/$me.passed"
         } | tee "$root/target/$me.log" | sed -n "s/^rt: \(.* proved ([0-9]* s)\)$/$me: \1/p" >&2
-        [ -f "$root/target/$me.passed" ] || {
+        [ -f "$root/target/$me.passed" ] && [ -f "$program" ] || {
             cat "$root/target/$me.log" >&2
             cannot "the $2 did not pass its check"
         }

@@ -9,10 +9,14 @@ import planner
 from desk import TWO_BYTES, Desk, Fault, answers_expected, held, number_of, tally
 from files import files
 from scripts import scripts
+from writing import written, written_fares
 
 CRATES = Path(__file__).resolve().parents[2] / "crates"
 EXPECTED = CRATES / "faults" / "stdout"
 DESK = CRATES / "desk"
+
+# The scripts of data that are made; the others are written by hand.
+MADE_SCRIPTS = "drawn-*.desk", "full-size.desk", "altered.desk", "longest-walk.desk"
 
 USAGE = """usage: python3 tools/second_planner QUESTION
 
@@ -27,7 +31,7 @@ faults                                      what the program `faults` should pri
 compare                                     whether that is its file stdout
 data [FOLDER]                               writes what is made for the program `desk`: in crates/desk, or in FOLDER,
                                             args, stdout, and the made scripts and files of data
-data-same                                   whether crates/desk has what it makes
+data-same                                   whether crates/desk has what it makes, and no such script besides
 desk SCRIPT..                               holds scripts for the program `desk` against the second planner"""
 
 
@@ -76,20 +80,20 @@ def edit(name, origin, turn, walk):
 
 # The printers' lines
 
-def written(*words):
-    return b"".join(number_of(word, TWO_BYTES).to_bytes(2, "little") for word in words)
+def nodes_asked(*words):
+    return written(number_of(word, TWO_BYTES) for word in words)
 
 
 def route(name, origin, destination):
-    print(planner.sheet(written(origin, destination) + Path(name).read_bytes()), end="")
+    print(planner.sheet(nodes_asked(origin, destination) + Path(name).read_bytes()), end="")
 
 
 def fare(name, origin, destination, fares):
     book, table = Path(name).read_bytes(), Path(fares).read_bytes()
     if len(table) < 12:
         sys.exit(f"{fares}: a fare file has twelve bytes or more")
-    terms = table[:12] + len(book).to_bytes(4, "little")
-    print(planner.fare_sheet(written(origin, destination) + terms + book + table[12:]), end="")
+    terms = table[:12] + written_fares([len(book)])
+    print(planner.fare_sheet(nodes_asked(origin, destination) + terms + book + table[12:]), end="")
 
 
 def sheet(name=None):
@@ -121,11 +125,17 @@ def compare():
 
 # What the program `desk` reads and prints
 
+def made_before():
+    """Names of the scripts in data that are made, or were."""
+    return {path.name for pattern in MADE_SCRIPTS for path in (DESK / "data").glob(pattern)}
+
+
 def made():
     """By name in crates/desk; args and stdout are for all scripts of data, those written by hand too."""
     data = dict(files(DESK / "data"))
-    data.update((name, text.encode()) for name, text in scripts())
-    by_hand = {path.name: path.read_bytes() for path in (DESK / "data").glob("*.desk")}
+    data.update((name, text.encode()) for name, text in scripts(data))
+    not_by_hand = made_before()
+    by_hand = {path.name: path.read_bytes() for path in (DESK / "data").glob("*.desk") if path.name not in not_by_hand}
     all_scripts = {name: script for name, script in sorted({**by_hand, **data}.items()) if name.endswith(".desk")}
     tallies = [tally(name, answers_expected(script), 0) for name, script in all_scripts.items()]
     return {
@@ -145,8 +155,9 @@ def compare_data():
     expected = made()
     differ = [name for name, content in expected.items()
               if not (DESK / name).is_file() or (DESK / name).read_bytes() != content]
-    if differ:
-        sys.exit(f"not what the second planner makes, in crates/desk: {' '.join(differ)}")
+    no_longer = [f"data/{name}" for name in sorted(made_before()) if f"data/{name}" not in expected]
+    if differ or no_longer:
+        sys.exit(f"not what the second planner makes, in crates/desk: {' '.join(differ + no_longer)}")
     print(f"crates/desk has what the second planner makes, {len(expected)} files")
 
 

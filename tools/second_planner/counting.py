@@ -2,6 +2,7 @@
 
 import drawing
 import planner
+from writing import written
 
 # More than a book has nodes, unless the damage altered that count.
 DESTINATIONS = 6
@@ -257,7 +258,7 @@ def hold_edit(case, labels):
     tally.hold(answer[:2] == (0, 0) and searched == (0, 0))
     tally.hold(list(answer[2:]) == altered)
     at = drawing.table_place(case.book, 8) + drawing.JOIN_BYTES * asked.turn + 4
-    tally.hold(book == case.book[:at] + asked.walk.to_bytes(2, "little") + case.book[at + 2 :])
+    tally.hold(book == case.book[:at] + written([asked.walk]) + case.book[at + 2 :])
     tally.hold(after == fresh)
 
 

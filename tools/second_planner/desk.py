@@ -6,6 +6,7 @@ from pathlib import Path
 
 import drawing
 import planner
+from writing import book_start, written
 
 BUFFERS = [field.replace("_", "-") for field in planner.Labels._fields]
 
@@ -15,6 +16,16 @@ MOST_NUMBERS = 65600
 LONGEST_BOOK = 65536
 LONGEST_LINE = 262144
 TWO_BYTES, FOUR_BYTES = 65535, 4294967295
+
+BLANKS = " \t\r"
+BETWEEN_WORDS = re.compile(f"[{BLANKS}]+")
+
+# A remark and an expected answer begin with these where a word can begin.
+REMARK, SIGN = (re.compile(f"(?<![^{BLANKS}]){letter}") for letter in "#=")
+
+# The questions that can be refused, and how a refusal is said.
+REFUSED = "check", "cost", "search", "route", "fare", "edit"
+REFUSAL = re.compile(r"[1-9][0-9]* [0-9]+")
 
 FILE_QUESTIONS = "open", "save", "same", "print", "print-fare"
 BUFFER_QUESTIONS = "alter", "lend"
@@ -66,7 +77,17 @@ def kept(labels):
 planner.labels = kept(planner.labels)
 
 
-# Numbers
+# Words and numbers
+
+def first_word(line):
+    """And the rest as it stands: the name of a file may have blanks within it."""
+    word, *rest = BETWEEN_WORDS.split(line.strip(BLANKS), maxsplit=1)
+    return word, rest[0] if rest else ""
+
+
+def words_of(line):
+    return [word for word in BETWEEN_WORDS.split(line) if word]
+
 
 def number_of(word, limit):
     if word == "closed":
@@ -90,7 +111,7 @@ def said(number, place, *figures):
 
 
 def too_long(line):
-    return len(line.encode(errors="replace")) > LONGEST_LINE
+    return len(line.encode(errors="surrogateescape")) > LONGEST_LINE
 
 
 def table_of(buffer):
@@ -100,8 +121,10 @@ def table_of(buffer):
 class Desk:
     """What lies on the desk; a question's function has its name and gives the words of the answer, if there is one."""
 
-    def __init__(self, folder="."):
-        self.folder, self.saved = Path(folder), {}
+    def __init__(self, folder=".", files=None):
+        """Files that are given here need not be in the folder."""
+        self.folder = Path(folder)
+        self.saved = {self.folder / name: content for name, content in (files or {}).items()}
         self.route_buffer, self.room_lent = [0] * ROOM, ROOM
         self.terms, self.table = [0, 0, 0], []
         self.put(b"")
@@ -121,9 +144,10 @@ class Desk:
     def asked(self, line):
         """The answer; what cannot be read or done is raised."""
         fault_if(too_long(line), "line too long")
-        question, *words = line.split() or [""]
+        question, rest = first_word(line)
+        words = words_of(rest)
         if question in FILE_QUESTIONS:
-            given = [" ".join(words)]
+            given = [rest]
         elif question in BUFFER_QUESTIONS:
             buffer, *words = words or [""]
             fault_if(buffer not in BUFFERS, "no such buffer")
@@ -166,7 +190,7 @@ class Desk:
     # The book
 
     def new(self, length):
-        self.put((planner.LETTERS + planner.KNOWN_VERSION.to_bytes(2, "little")).ljust(length, b"\0")[:length])
+        self.put(book_start().ljust(length, b"\0")[:length])
 
     def length(self, length):
         self.book = self.book[:length].ljust(length, b"\0")
@@ -174,7 +198,7 @@ class Desk:
     def number(self, at, *values):
         end = at + 2 * len(values)
         fault_if(end > len(self.book), "past the end of the book")
-        self.book[at:end] = b"".join(value.to_bytes(2, "little") for value in values)
+        self.book[at:end] = written(values)
 
     def count(self, name):
         """As the header says, which a damaged one does past the limit; none where the book ends before it."""
@@ -229,8 +253,8 @@ class Desk:
         """What the planner writes in the labels that are lent to it stays on the desk."""
         lent = self.lent()
         answer = question(self.book, *numbers, lent)
-        for figures, written in zip(self.labels.values(), lent):
-            figures[:len(written)] = written
+        for figures, lent_figures in zip(self.labels.values(), lent):
+            figures[:len(lent_figures)] = lent_figures
         return said(*answer)
 
     def search(self, origin):
@@ -269,14 +293,14 @@ def parted(line):
     """Question and expected answer, which is None where no sign stands; a line that is too long is not read."""
     if too_long(line):
         return line, None
-    text, *_ = re.split(r"(?<!\S)#", line, maxsplit=1)
-    question, *expected = re.split(r"(?<!\S)=", text, maxsplit=1)
-    return question.strip(), expected[0].strip() if expected else None
+    text, *_ = REMARK.split(line, maxsplit=1)
+    question, *expected = SIGN.split(text, maxsplit=1)
+    return question.strip(BLANKS), expected[0].strip(BLANKS) if expected else None
 
 
 def lines_of(script):
     """Place, question and expected answer, but for blank lines and those that are a remark."""
-    lines = enumerate(script.decode(errors="replace").split("\n"), start=1)
+    lines = enumerate(script.decode(errors="surrogateescape").split("\n"), start=1)
     return [line for line in ((place, *parted(text)) for place, text in lines) if line[1:] != ("", None)]
 
 
@@ -288,9 +312,10 @@ def answers_expected(script):
     return sum(expected is not None for _, _, expected in lines_of(script))
 
 
-def as_expected(answer, expected):
-    """A refusal's meaning may stand behind its number and place."""
-    return answer in (expected, re.sub(r"^(\d+ \d+) [a-z].*", r"\1", expected))
+def as_expected(question, answer, expected):
+    """Words may stand behind the figures of a refusal."""
+    refused = first_word(question)[0] in REFUSED and REFUSAL.fullmatch(answer)
+    return answer == expected or bool(refused and re.match(f"{answer} [a-z]", expected))
 
 
 def report(desk, question, expected):
@@ -302,7 +327,7 @@ def report(desk, question, expected):
         except Fault as fault:
             return str(fault)
     answer = desk.answer(question)
-    return None if as_expected(answer, expected) else f"{question} = {answer}, expected {expected}"
+    return None if as_expected(question, answer, expected) else f"{question} = {answer}, expected {expected}"
 
 
 def held(path):

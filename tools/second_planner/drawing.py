@@ -2,6 +2,9 @@
 
 from collections import namedtuple
 
+import writing
+from planner import CLOSED, FORBIDDEN
+
 SEED = 7
 BOOKS = 4000
 
@@ -9,21 +12,17 @@ BOOKS = 4000
 BOOK_ROOM = 256
 ROOM = 16
 
-MOST_LINKS = 6
-MOST_TURNS = 12
 MOST_PAIRS = 12
-
-BARRED = 65535
 
 # What is drawn, each of ten as often as the others: few nodes, so that many links join, and many figures of 0, so that many walks cost the same.
 NODES_DRAWN = [1, 2, 2, 3, 3, 3, 3, 4, 4, 5]
 LINKS_DRAWN = [0, 2, 3, 4, 5, 6, 6, 6, 6, 6]
 HEADWAYS = [0, 0, 0, 0, 0, 1, 1, 2, 3, 3]
 RIDES = [0, 0, 0, 0, 0, 0, 1, 1, 2, 2]
-WALKS = [0, 0, 0, 0, 1, 1, 1, 2, 3, BARRED]
-EXTRAS = [0, 0, 1, 2, BARRED, BARRED, BARRED, BARRED, BARRED, BARRED]
+WALKS = [0, 0, 0, 0, 1, 1, 1, 2, 3, CLOSED]
+EXTRAS = [0, 0, 1, 2, FORBIDDEN, FORBIDDEN, FORBIDDEN, FORBIDDEN, FORBIDDEN, FORBIDDEN]
 TURNS_DRAWN = [5, 5, 5, 5, 5, 12, 12, 12, 12, 12]
-NEW_WALKS = [0, 0, 1, 1, 2, 3600, 3601, 65534, BARRED, BARRED]
+NEW_WALKS = [0, 0, 1, 1, 2, 3600, 3601, 65534, CLOSED, CLOSED]
 
 # Book A's shape has four nodes and four links: where the way on past node 2 is forbidden, the loop by node 1 repeats a link.
 SHAPE = 4
@@ -53,8 +52,8 @@ class Generator:
         self.state = (self.state * 1664525 + 1013904223) % self.STATES
         return self.state // 65536 % choices % 65535 if choices else 0
 
-    def one_of(self, ten):
-        return ten[self.drawn(len(ten))]
+    def one_of(self, things):
+        return things[self.drawn(len(things))]
 
 
 # The bytes past the length are kept, since damage may cut a book short.
@@ -76,7 +75,7 @@ def number_in(room, at):
 
 def with_number(book, at, value):
     room = bytearray(book.room)
-    room[at : at + 2] = value.to_bytes(2, "little")
+    room[at : at + 2] = writing.written([value])
     return Book(bytes(room), book.length)
 
 
@@ -87,13 +86,7 @@ def table_place(room, number):
     return HEADER_BYTES + LINE_BYTES * past[0] + LINK_BYTES * past[1] + JOIN_BYTES * past[2]
 
 
-def written(nodes, headways, links, turns, pairs, carry_over):
-    counts = [nodes, len(headways), len(links), len(turns), len(pairs), carry_over]
-    numbers = [1, *counts, *headways]
-    for table in (links, turns, pairs):
-        for entry in table:
-            numbers.extend(entry)
-    text = b"LTB" + b"".join(number.to_bytes(2, "little") for number in numbers)
+def in_room(text):
     return Book(text.ljust(BOOK_ROOM, b"\0"), len(text))
 
 
@@ -163,7 +156,7 @@ def good_book(generator):
     links = drawn_links(generator, shaped, nodes, lines)
     turns = drawn_turns(generator, shaped, links)
     pairs = drawn_pairs(generator, turns)
-    return written(nodes, headways, links, turns, pairs, carry_over)
+    return in_room(writing.book(nodes, headways, links, turns, pairs, carry_over))
 
 
 def bad_entry(generator, book, number):

@@ -1,18 +1,7 @@
 """Files beside the desk's scripts, and two scripts, each built from its description; no rule of the planner is here."""
 
-FORBIDDEN = 65535
-NO_WALK, NO_BACK, START = 4294967295, 65535, 65534
-
-
-def written(numbers, length=2):
-    return b"".join(number.to_bytes(length, "little") for number in numbers)
-
-
-def book(nodes, carry_over, headways, links, turns, pairs):
-    tables = links, turns, pairs
-    counts = nodes, len(headways), *(len(table) for table in tables), carry_over
-    entries = (number for table in tables for entry in table for number in entry)
-    return b"LTB" + written((1, *counts, *headways, *entries))
+from planner import CLOSED, FORBIDDEN, NO_BACK, NO_ENTRY
+from writing import book, written, written_fares
 
 
 # Document 01, "Book A"
@@ -32,14 +21,14 @@ def largest():
     def second_link(turn):
         return (turn // 2 + 1) % 1024 + 1024 * (turn % 2)
 
-    def seconds(number):
-        return 3600 if number % 2 == 0 else 65535
+    def seconds(number, barred):
+        return 3600 if number % 2 == 0 else barred
 
     return book(
         nodes=1024, carry_over=3600, headways=[7200] * 256,
         links=[(link % 1024, (link + 1) % 1024, link % 256, 36000) for link in range(2048)],
-        turns=[(turn // 2, second_link(turn), seconds(turn)) for turn in range(4096)],
-        pairs=[(turn, 2 * second_link(turn), seconds(turn)) for turn in range(2048)])
+        turns=[(turn // 2, second_link(turn), seconds(turn, CLOSED)) for turn in range(4096)],
+        pairs=[(turn, 2 * second_link(turn), seconds(turn, FORBIDDEN)) for turn in range(2048)])
 
 
 def chain():
@@ -73,38 +62,58 @@ def asked(origin, destination, book):
 
 def asked_fare(origin, destination, basic_distance, step, premium, book, metres, basic_fares):
     terms = basic_distance, step, premium, len(book)
-    return written((origin, destination)) + written(terms, 4) + book + written((*metres, *basic_fares), 4)
+    return asked(origin, destination, written_fares(terms) + book + written_fares((*metres, *basic_fares)))
 
 
-# Scripts that are one line over and over
+# Scripts that are one line over and over, or lines at the desk's limits
 
 def walk_between(length):
     """From node 1 by links 1 and 3 of book A in turn."""
     return " ".join(["cost 1", *("1" if place % 2 == 0 else "3" for place in range(length))])
 
 
+def fares_of(length):
+    """Noughts, but for a step of 1."""
+    return " ".join(["fares 0 1 0", *["0"] * length])
+
+
 LONGEST_WALKS = f"""\
 # The cost of a given walk: from node 1 round and round by links 1 and 3 of book A. Each turn from 3 to 1 has the only \
 walk.
+# Then the most numbers of a line and of a fare table, each with one more, and a line that ends with a carriage return.
 open book-a.book
 # as many links as the longest chosen walk can have
 {walk_between(4097)} = 0 239666
 {walk_between(65535)} = 0 3833789
 # no walk of more links is costed
 {walk_between(65536)} = too long
+# 65,600 numbers, the origin among them, then one more
+{walk_between(65599)} = too long
+{walk_between(65600)} = too many numbers
+
+# Fares for book A's seven numbers, which a table that is too long for the desk leaves; one of 4,097 is not book A's
+search 1 = 0
+{fares_of(7)}
+fare 1 1 = 0 0 0 0
+{fares_of(4098)} = fares more than 4097
+fare 1 1 = 0 0 0 0
+{fares_of(4097)}
+fare 1 1 = 17 0
+
+# A carriage return before the newline is a blank
+check = 0 4 2 5 5 1 100\r
 same book-a.book = yes
 """
 
 # Book A's true entries by origin: first the turns', then the links'.
-ABSENT = NO_WALK, 0, NO_BACK
 ENTRIES = {
-    0: (((90, 2, START), (342, 5, 3), (153, 3, 0), (207, 4, 2), (442, 2, START)),
-        ((40, 1, START), (90, 2, 0), (342, 5, 1), (153, 3, 2), (403, 1, START))),
-    1: ((ABSENT, (85, 2, START), (113, 2, START), (167, 3, 2), ABSENT),
-        (ABSENT, (50, 1, START), (85, 2, 1), (113, 2, 2), ABSENT)),
-    2: ((ABSENT, (252, 3, 3), (180, 3, 3), (117, 2, START), ABSENT),
-        (ABSENT, (117, 2, 3), (30, 1, START), (63, 1, START), ABSENT)),
-    3: ((ABSENT,) * 5, (ABSENT,) * 5),
+    0: (((90, 2, NO_BACK), (342, 5, 3), (153, 3, 0), (207, 4, 2), (442, 2, NO_BACK)),
+        ((40, 1, NO_BACK), (90, 2, 0), (342, 5, 1), (153, 3, 2), (403, 1, NO_BACK))),
+    1: ((NO_ENTRY, (85, 2, NO_BACK), (113, 2, NO_BACK), (167, 3, 2), NO_ENTRY),
+        (NO_ENTRY, (50, 1, NO_BACK), (85, 2, 1), (113, 2, 2), NO_ENTRY)),
+    2: ((NO_ENTRY, (252, 3, 3), (180, 3, 3), (117, 2, NO_BACK), NO_ENTRY),
+        (NO_ENTRY, (117, 2, 3), (30, 1, NO_BACK), (63, 1, NO_BACK), NO_ENTRY)),
+    3: ((NO_ENTRY,) * 5, (NO_ENTRY,) * 5),
 }
 FIELDS = ("cost", 2 ** 32), ("links", 2 ** 16), ("back", 2 ** 16)
 
@@ -114,19 +123,21 @@ def all_figures(entries):
 
 
 def altered(origin, more):
-    """Each of the 30 numbers in its turn: raised, asked with, and as it was."""
+    """Each of the 30 numbers in its turn: altered, asked with, shown, and as it was."""
     for name, entries in zip(("turn", "link"), ENTRIES[origin]):
         for field, (field_name, numbers) in enumerate(FIELDS):
             for number, entry in enumerate(entries):
-                alter = f"alter {name}-{field_name} {number}"
-                yield f"{alter} {(entry[field] + more) % numbers}\nroute {origin} 3 5 = 13 0\n{alter} {entry[field]}\n"
+                alter, figure = f"alter {name}-{field_name} {number}", (entry[field] + more) % numbers
+                yield f"{alter} {figure}\nroute {origin} 3 5 = 13 0\n"
+                yield f"{name} {number} = {all_figures([(*entry[:field], figure, *entry[field + 1:])])}\n"
+                yield f"{alter} {entry[field]}\n"
 
 
 BEFORE_ALTERATIONS = """\
 # Document 01, "Run by a program": one altered back gives 13, and so does every other number of the labels. Each of
-# book A's 30 is altered by one, round at its limit, and put back, before a route to 3 is asked for anew.
+# book A's 30 is altered by one, round at its limit, asked with, shown with its entry, and put back.
 open book-a.book
-# what 13 leaves in the route buffer
+# a route comes first, so that what a 13 leaves in the route buffer is seen afterwards
 search 0 = 0
 route 0 3 5 = 0 342 5 0 1 3 1 2
 """
@@ -148,7 +159,6 @@ def files(folder):
     yield "chain.book", chain()
     yield "fan.book", fan()
     yield "book-a.input", asked(0, 3, BOOK_A)
-    yield "asked.input", asked(0, 3, BOOK_A)  # as sheet.desk, which writes it, leaves it
     yield "largest.input", asked(0, 1, largest())
     yield "fares-of-book-a.input", asked_fare(
         0, 3, 10000, 5000, 100, BOOK_A, metres=(4000, 3000, 5000, 2000, 9000), basic_fares=(550, 800))

@@ -1,9 +1,10 @@
-"""Scripts for the program `desk`, drawn from a seed, with the second planner's answers; no rule is decided here."""
+"""Scripts for the program `desk`, drawn or of full-size books, with the second planner's answers; no rule is here."""
 
 from contextlib import contextmanager
 
 import drawing
 import planner
+import writing
 from desk import ROOM, Desk
 
 # The longest route buffer, and the most entries of a damaged book, that are shown.
@@ -23,10 +24,10 @@ METRES = [0, 1, 400, 999, 1000, 1001, 4000, 5000, 12000, 200000]
 WON = [0, 1, 100, 100, 550, 550, 800, 800, 1350, 100000]
 
 # Headways, rides and walks of larger books: small, so that many walks cost the same, or up to their limits.
-SMALL_FIGURES = [0, 0, 1, 1, 2, 3], [0, 1, 1, 2, 2, 3, 3, 4, 5, 8], [0, 0, 1, 1, 2, 3, 5, drawing.BARRED]
+SMALL_FIGURES = [0, 0, 1, 1, 2, 3], [0, 1, 1, 2, 2, 3, 3, 4, 5, 8], [0, 0, 1, 1, 2, 3, 5, planner.CLOSED]
 ANY_FIGURES = (
-    [0, 1, 299, 300, 7200], [0, 60, 90, 120, 240, 600, 3599, 36000], [0, 0, 30, 45, 60, 120, 3600, drawing.BARRED])
-LARGER_EXTRAS = [0, 1, 60, 3600, drawing.BARRED, drawing.BARRED, drawing.BARRED]
+    [0, 1, 299, 300, 7200], [0, 60, 90, 120, 240, 600, 3599, 36000], [0, 0, 30, 45, 60, 120, 3600, planner.CLOSED])
+LARGER_EXTRAS = [0, 1, 60, 3600, planner.FORBIDDEN, planner.FORBIDDEN, planner.FORBIDDEN]
 MOST_LARGER_TURNS, MOST_LARGER_PAIRS = 200, 60
 
 
@@ -35,13 +36,20 @@ def number_start(at):
     return at // 2 if at < drawing.VERSION else at - (at - drawing.VERSION) % 2
 
 
+def walk_word(walk):
+    return "closed" if walk == planner.CLOSED else walk
+
+
 class Script:
     """The lines that are written, and the desk as they leave it."""
 
-    def __init__(self, remark):
-        self.desk, self.books, self.lines = Desk(), 0, []
-        self.remark(remark)
-        self.remark("Drawn from a seed by tools/second_planner, which also gives the expected answers.")
+    def __init__(self, *remarks, files=None):
+        self.desk, self.books, self.lines = Desk(files=files), 0, []
+        for remark in remarks:
+            self.remark(remark)
+
+    def text(self):
+        return "\n".join(self.lines) + "\n"
 
     def remark(self, remark):
         self.lines.append(f"# {remark}")
@@ -95,7 +103,7 @@ class Script:
 
     def edit(self, origin, turn, walk):
         """Whether it is done."""
-        number, *_ = self.ask("edit", origin, turn, "closed" if walk == planner.CLOSED else walk)
+        number, *_ = self.ask("edit", origin, turn, walk_word(walk))
         return int(number) == planner.DONE
 
     def route(self, origin, destination):
@@ -386,9 +394,10 @@ def larger_book(generator):
         links.append((start, drawing.another(generator, nodes, start), generator.drawn(lines), generator.one_of(rides)))
     turns = some_of(generator, joins([(end, start) for start, end, _, _ in links]), MOST_LARGER_TURNS)
     pairs = some_of(generator, joins([(second, first) for first, second in turns]), MOST_LARGER_PAIRS)
-    return drawing.written(nodes, [generator.one_of(headways) for _ in range(lines)], links,
-                           [(*turn, generator.one_of(walks)) for turn in turns],
-                           [(*pair, generator.one_of(LARGER_EXTRAS)) for pair in pairs], generator.drawn(4))
+    return drawing.in_room(writing.book(
+        nodes, [generator.one_of(headways) for _ in range(lines)], links,
+        [(*turn, generator.one_of(walks)) for turn in turns],
+        [(*pair, generator.one_of(LARGER_EXTRAS)) for pair in pairs], generator.drawn(4)))
 
 
 def ask_larger(generator, script):
@@ -408,10 +417,75 @@ def ask_larger(generator, script):
     script.route(origin, generator.drawn(script.nodes()))
 
 
+# Full-size books
+
+def search_whole(script, origin, *destinations):
+    script.ask("search", origin)
+    script.show_labels()
+    for destination in destinations:
+        script.route(origin, destination)
+
+
+def edit_whole(script, turn, walk, destination):
+    """From 0: its counts, all entries of links unless they stand here already, and a route, which tests all entries."""
+    script.edit(0, turn, walk)
+    if f"links = {script.desk.asked('links')}" not in script.lines:
+        script.ask("links")
+    script.route(0, destination)
+
+
+def put_back(script, name, walks):
+    first_turn = drawing.table_place(script.desk.book, planner.TURN)
+    for turn, walk in walks:
+        script.do("number", first_turn + drawing.JOIN_BYTES * turn + 4, walk_word(walk))
+    script.ask("same", name)
+
+
+def ask_chain(script):
+    script.remark("One walk of 2,048 links: along 1,024 nodes, back to node 1 and on again; walks are 2")
+    script.do("open", "chain.book")
+    search_whole(script, 0, 1023)
+    for turn, walk in (0, 3600), (0, planner.CLOSED), (0, 2), (1, 0):
+        edit_whole(script, turn, walk, 1023)
+    put_back(script, "chain.book", [(1, 2)])
+    script.remark("from the far end")
+    search_whole(script, 1023, 1)
+    script.ask("same", "chain.book")
+
+
+def ask_fan(script):
+    script.remark("The most successive turns: one link across and 2,047 back, and all 4,094 changes")
+    script.do("open", "fan.book")
+    search_whole(script, 0, 0, 1)
+    search_whole(script, 1, 0, 1)
+    script.ask("same", "fan.book")
+
+
+def ask_largest(script):
+    script.remark("The largest book: a ring of 1,024 nodes, each left by two links, every other turn closed")
+    script.do("open", "largest.book")
+    search_whole(script, 0, 1023)
+    for turn, walk in (0, 3599), (0, planner.CLOSED), (1, 3600), (4095, 3600):
+        edit_whole(script, turn, walk, 1023)
+    put_back(script, "largest.book", [(0, 3600), (1, planner.CLOSED), (4095, planner.CLOSED)])
+
+
+def full_size(files):
+    """The files have the books."""
+    script = Script("Full-size books: all entries, and long routes; search.desk and edit.desk have some of them.",
+                    "After an edit all entries of links, unless the same ones stand above; a route tests all entries.",
+                    "Made by tools/second_planner, which also gives the expected answers.", files=files)
+    for ask in (ask_chain, ask_fan, ask_largest):
+        script.lines.append("")
+        ask(script)
+    return script.text()
+
+
 KINDS = [
     ("good", 500, ask_good, "Small good books: labels, every route, rooms too short, and walks, permitted or not."),
     ("damaged", 900, ask_damaged,
-     "Small good books, damaged after a search: each question is refused and changes nothing."),
+     "Small good books, altered after a search. Most are damaged then: each question is refused and changes nothing. "
+     "The others stay good, and are answered as they stand then."),
     ("labels", 420, ask_labels, "Labels with a figure altered, or of another length, origin or book."),
     ("edits", 140, ask_edits, "Runs of edits without a search between them, some of them refused."),
     ("fares", 400, ask_fares, "Fares, many of them past their limits or of another length."),
@@ -419,10 +493,16 @@ KINDS = [
 ]
 
 
-def scripts():
+def drawn_scripts():
     """Each from a seed of its own, so that one can be altered without the others."""
     for seed, (kind, books, ask, remark) in enumerate(KINDS, start=drawing.SEED):
-        generator, script = drawing.Generator(seed), Script(remark)
+        generator = drawing.Generator(seed)
+        script = Script(remark, "Drawn from a seed by tools/second_planner, which also gives the expected answers.")
         for _ in range(books):
             ask(generator, script)
-        yield f"drawn-{kind}.desk", "\n".join(script.lines) + "\n"
+        yield f"drawn-{kind}.desk", script.text()
+
+
+def scripts(files):
+    yield from drawn_scripts()
+    yield "full-size.desk", full_size(files)

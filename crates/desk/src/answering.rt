@@ -10,6 +10,7 @@ use book::NodeNumber;
 use script::BOOK;
 use script::LENT_ROOM;
 use script::NO_BUFFER;
+use script::NUMBERS_ROOM;
 use script::Object;
 use script::ROUTE;
 use script::Reading;
@@ -20,7 +21,6 @@ use script::answer;
 use script::buffer_of;
 use script::buffer_part;
 use script::copy_narrow;
-use script::done;
 use script::fault;
 use script::from_place;
 use script::handle;
@@ -40,16 +40,13 @@ use script::within_numbers;
 use script::word_end;
 use walk::cost_of;
 
-// One link more than a walk that is costed may have, and some.
-const LINKS_ROOM: usize = 65600;
-
 fn say_check(book: &[u8], length: usize, text: &mut [u8]) -> Said {
     let end = within(length, book);
     answer(put_checked(search::check(&book[..end]), text))
 }
 
 fn say_cost(numbers: &[u32], book: &[u8], length: usize, text: &mut [u8]) -> Said {
-    let mut links = [0u16; LINKS_ROOM];
+    let mut links = [0u16; NUMBERS_ROOM];
     let walk = from_place(numbers, 1);
     copy_narrow(walk, &mut links);
     let count = within_numbers(walk.len(), &links);
@@ -164,7 +161,6 @@ pub fn answer_line(
     let verb = verb_of(&line[..end]);
     let words = trimmed(&line[end..]);
     match object_of(verb) {
-        Object::Nothing => done(),
         Object::Unknown => fault(text, b"no such question"),
         Object::File => handle_file(verb, words, book, figures, text),
         Object::Printed => print_file(verb, words, text),

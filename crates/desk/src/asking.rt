@@ -6,10 +6,12 @@ use edit::edit;
 use fare::Fared;
 use fare::Terms;
 use fare::fare;
+use fare::fare_given_back;
 use script::Verb;
 use search::Routed;
 use search::Searched;
 use search::route;
+use search::route_given_back;
 use search::search;
 
 // A question with its numbers and the fares' terms.
@@ -21,7 +23,7 @@ pub struct Asked {
     pub terms: Terms,
 }
 
-// A refusal's number and place; or 0, so many figures, and so many links of the route buffer after them.
+// The figures that a question's answer has by document 01: number and place, so many others, and so many links of the route buffer after them.
 pub struct Told {
     pub number: u8,
     pub place: usize,
@@ -30,56 +32,50 @@ pub struct Told {
     pub links: usize,
 }
 
-fn refused(number: u8, place: usize) -> Told {
+fn of_searched(answer: Searched) -> Told {
+    let found = search::given_back(answer);
     Told {
-        number,
-        place,
+        number: found.number,
+        place: found.place,
         count: 0,
         figures: [0, 0, 0],
         links: 0,
     }
 }
 
-fn done_with(count: u8, figures: [u64; 3], links: usize) -> Told {
-    Told {
-        number: 0,
-        place: 0,
-        count,
-        figures,
-        links,
-    }
-}
-
-fn of_searched(answer: Searched) -> Told {
-    match answer {
-        Searched::Refused(found) => refused(found.number, found.place),
-        Searched::Done => done_with(0, [0, 0, 0], 0),
-    }
-}
-
 // Cost and number of links; the links follow.
 fn of_routed(answer: Routed) -> Told {
-    match answer {
-        Routed::Refused(found) => refused(found.number, found.place),
-        Routed::Done(cost, links) => done_with(2, [cost as u64, links as u64, 0], links as usize),
+    let found = route_given_back(answer);
+    Told {
+        number: found.number,
+        place: found.place,
+        count: 2,
+        figures: [found.cost as u64, found.links as u64, 0],
+        links: found.links as usize,
     }
 }
 
 // Fare, cost and number of links; the links follow.
 fn of_fared(answer: Fared) -> Told {
-    match answer {
-        Fared::Refused(found) => refused(found.number, found.place),
-        Fared::Done(cost, links, won) => {
-            done_with(3, [won.0, cost as u64, links as u64], links as usize)
-        }
+    let found = fare_given_back(answer);
+    Told {
+        number: found.number,
+        place: found.place,
+        count: 3,
+        figures: [found.fare.0, found.cost as u64, found.links as u64],
+        links: found.links as usize,
     }
 }
 
 // The two counts.
 fn of_edited(answer: Edited) -> Told {
-    match answer {
-        Edited::Refused(found) => refused(found.number, found.place),
-        Edited::Done(turns, links) => done_with(2, [turns as u64, links as u64, 0], 0),
+    let found = edit::given_back(answer);
+    Told {
+        number: found.number,
+        place: found.place,
+        count: 2,
+        figures: [found.turns as u64, found.links as u64, 0],
+        links: 0,
     }
 }
 

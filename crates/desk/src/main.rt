@@ -9,6 +9,7 @@ mod scripts;
 use libc::STDIN_FILENO;
 use script::BOOK_ROOM;
 use script::FIGURES;
+use script::NUMBERS_ROOM;
 use script::larger;
 use script::print;
 use script::print_tally;
@@ -20,9 +21,6 @@ const LINE_ROOM: usize = 262144;
 
 // The longest answer is all the turns of a full book.
 const TEXT_ROOM: usize = 98304;
-
-// A walk longer than the longest that is costed, and its origin.
-const NUMBERS_ROOM: usize = 65600;
 
 // The name of the script that an argument gives; where none does, of standard input.
 fn named(which: usize, path: &mut [u8]) -> usize {

@@ -6,17 +6,21 @@ use script::put_meaning;
 use script::put_words;
 use walk::Costed;
 
-// Number, place and meaning: document 01, "Numbers given back", and document 02.
-fn put_refusal(text: &mut [u8], number: u8, place: usize) -> usize {
-    let at = put_figure(text, 0, number as u64);
-    let at = put_figure(text, at, place as u64);
-    let at = put_words(text, at, b" ");
+// What a refusal's number means: document 01, "Numbers given back", and document 02.
+fn put_why(text: &mut [u8], from: usize, number: u8) -> usize {
+    let at = put_words(text, from, b" ");
     put_meaning(
         text,
         at,
         number as usize,
         b"done;book under 17 bytes;mark;version;a count or the carry-over above its limit;length differs from what the counts give;this line breaks a rule;this link breaks a rule;this turn breaks a rule;this pair breaks a rule;origin or destination is no node;edited turn is not in the table, or its new walk is not allowed;a label buffer has another length;some label entry is not the true one for this book and origin;no permitted walk;route buffer shorter than the route;;fare table of another length, or a value outside its limits;",
     )
+}
+
+fn put_refusal(text: &mut [u8], number: u8, place: usize) -> usize {
+    let at = put_figure(text, 0, number as u64);
+    let at = put_figure(text, at, place as u64);
+    put_why(text, at, number)
 }
 
 fn put_where(text: &mut [u8], at: usize, figure: u64, wanted: bool) -> usize {
@@ -26,9 +30,20 @@ fn put_where(text: &mut [u8], at: usize, figure: u64, wanted: bool) -> usize {
     at
 }
 
+// A refusal's other figures are 0: one that were not would be said.
+fn put_refused(told: Told, text: &mut [u8]) -> usize {
+    let figures = told.figures;
+    let at = put_figure(text, 0, told.number as u64);
+    let at = put_figure(text, at, told.place as u64);
+    let at = put_where(text, at, figures[0], figures[0] != 0);
+    let at = put_where(text, at, figures[1], figures[1] != 0);
+    let at = put_where(text, at, figures[2], figures[2] != 0);
+    put_why(text, at, told.number)
+}
+
 pub fn put_told(told: Told, text: &mut [u8]) -> usize {
     if told.number != 0 {
-        return put_refusal(text, told.number, told.place);
+        return put_refused(told, text);
     }
     let count = told.count;
     let figures = told.figures;

@@ -4,6 +4,7 @@ use script::Came;
 use script::Progress;
 use script::after;
 use script::clear_desk;
+use script::count_broken;
 use script::hold;
 use script::lines_left;
 use script::onward;
@@ -13,6 +14,7 @@ use script::show;
 use script::start;
 use script::take_line;
 use script::trimmed;
+use script::unclear;
 use script::within;
 use script::word_with;
 use std::num::wrapping_add_u64;
@@ -28,15 +30,18 @@ fn settle(
     text: &mut [u8],
 ) -> Came {
     if line.len() < length {
-        return show(name, place, b"line too long", false);
+        return show(name, place, b"line too long", unclear(0));
     }
     let said = said_in(line, length);
+    if said.len() == 0 {
+        return Came::Unasked;
+    }
     let sign = word_with(said, b'=');
     let question = trimmed(&said[..sign]);
     let answered = answer_line(question, numbers, book, figures, text);
     let end = within(answered.length, text);
     if said.len() <= sign {
-        return show(name, place, &text[..end], answered.clear);
+        return show(name, place, &text[..end], answered);
     }
     hold(name, place, question, after(said, sign), &text[..end])
 }
@@ -64,7 +69,7 @@ fn answer_next(
         figures,
         text,
     );
-    onward(before, taken, came)
+    count_broken(name, onward(before, taken, came), taken.broken)
 }
 
 pub fn run_script(

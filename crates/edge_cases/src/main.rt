@@ -5,6 +5,7 @@ use fare::Metres;
 use fare::Terms;
 use fare::Won;
 use fare::fare;
+use libc::STDIN_FILENO;
 use script::print;
 use script::within;
 use sheet::Sheeted;
@@ -69,7 +70,7 @@ fn say_sheet(name: &[u8], answered: Sheeted, text: &[u8]) {
     }
 }
 
-// The sheet of an input of no byte: `1 0`, wherever there is room for the longest line.
+// A text has room for the longest line or is left as it was, whatever the line would be.
 fn no_room() {
     let mut none = [MARK; 0];
     let answered = sheet(&[], &mut none);
@@ -82,10 +83,14 @@ fn no_room() {
     say_sheet(b"a fare sheet in a text of 20516 bytes: ", answered, &short);
 }
 
-fn room() {
+fn room(input: &[u8]) {
     let mut text = [MARK; 20502];
-    let answered = sheet(&[], &mut text);
-    say_sheet(b"a sheet in a text of 20502 bytes: ", answered, &text);
+    let answered = sheet(input, &mut text);
+    say_sheet(
+        b"book A's sheet in a text of 20502 bytes: ",
+        answered,
+        &text,
+    );
     let mut text = [MARK; 20517];
     let answered = fare_sheet(&[], &mut text);
     say_sheet(b"a fare sheet in a text of 20517 bytes: ", answered, &text);
@@ -138,8 +143,11 @@ fn terms() {
     );
 }
 
+// Standard input is what the route printer reads: 0, 3 and book A.
 fn main() {
+    let mut input = [0u8; 128];
+    let end = io::read_full(STDIN_FILENO, &mut input);
     no_room();
-    room();
+    room(&input[..end]);
     terms();
 }

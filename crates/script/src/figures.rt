@@ -1,4 +1,5 @@
 // The figures on the desk: six label buffers, the route buffer and the fare table, one after the other, each with the same room, then how much of each is lent.
+use super::parts::narrow;
 use super::parts::size_at;
 use super::parts::within_figures;
 use super::parts::within_numbers;
@@ -8,23 +9,17 @@ use super::text::answer;
 use super::text::done;
 use super::text::fault;
 use super::text::put_figure;
+use super::text::wide;
 use super::words::place_in;
 use std::num::wrapping_add_usize;
 
 // One more than the most turns, and as many as the longest route has links.
 pub const LENT_ROOM: usize = 4097;
 
+// Of each table the buffers of cost, links and back stand one after the other.
 pub const TURN_COST: usize = 0;
 
-pub const TURN_LINKS: usize = 1;
-
-pub const TURN_BACK: usize = 2;
-
 pub const LINK_COST: usize = 3;
-
-pub const LINK_LINKS: usize = 4;
-
-pub const LINK_BACK: usize = 5;
 
 pub const ROUTE: usize = 6;
 
@@ -54,9 +49,9 @@ pub const FIGURES: usize = SIZES_FROM + SIZES;
 // A label buffer is lent as the book's header counts.
 pub const AS_COUNTED: usize = 4294967295;
 
-// The buffer of this name, or their number where there is none.
 pub const NO_BUFFER: usize = LABEL_BUFFERS;
 
+// The buffer of this name, or their number where there is none.
 pub fn buffer_of(name: &[u8]) -> usize {
     place_in(
         name,
@@ -94,12 +89,8 @@ fn size_place(which: usize) -> usize {
     SIZES_FROM + which % SIZES
 }
 
-fn long(figure: u32) -> usize {
-    figure as usize
-}
-
 pub fn size_of(figures: &[u32], which: usize) -> usize {
-    long(figure_at(figures, size_place(which)))
+    size_at(figures, size_place(which))
 }
 
 pub fn set_size(figures: &mut [u32], which: usize, size: usize) {
@@ -113,10 +104,6 @@ pub fn clear(figures: &mut [u32], count: usize) {
         set_figure(figures, at, 0);
         at += 1;
     }
-}
-
-fn wide(figure: u32) -> u64 {
-    figure as u64
 }
 
 fn put_entry(
@@ -212,10 +199,6 @@ fn set_number(numbers: &mut [u16], at: usize, value: u16) {
     }
 }
 
-fn narrow(figure: u32) -> u16 {
-    (figure % 65536) as u16
-}
-
 // Figures into a buffer of two-byte numbers, as far as it goes.
 pub fn copy_narrow(figures: &[u32], target: &mut [u16]) {
     let mut passed = 0;
@@ -229,7 +212,7 @@ fn widened(number: u16) -> u32 {
     number as u32
 }
 
-// Two-byte numbers into the buffer that begins so far on.
+// Two-byte numbers into a buffer of figures, as far as it goes.
 fn copy_wide(numbers: &[u16], target: &mut [u32]) {
     let mut passed = 0;
     while passed < numbers.len() {

@@ -29,7 +29,12 @@ fn read_open(file: i32, bytes: &mut [u8]) -> Contents {
     }
     let first = io::count(got, bytes);
     let rest = io::read_full(file, &mut bytes[first..]);
-    Contents::Bytes(wrapping_add_usize(first, rest))
+    let end = within(wrapping_add_usize(first, rest), bytes);
+    // where the bytes end before their room does, this says whether the file does too
+    if libc::read(file, &mut bytes[end..]) < 0 {
+        return Contents::NotOpened;
+    }
+    Contents::Bytes(end)
 }
 
 pub fn read_file(name: &[u8], bytes: &mut [u8]) -> Contents {

@@ -59,7 +59,7 @@ pub fn from_place(numbers: &[u32], from: usize) -> &[u32] {
     &numbers[at..]
 }
 
-fn narrow(number: u32) -> u16 {
+pub fn narrow(number: u32) -> u16 {
     (number % 65536) as u16
 }
 

@@ -1,12 +1,13 @@
 // The lines of a script, out of blocks of its bytes.
 use std::num::wrapping_add_usize;
 
-// Bytes `at` to `end` of the block are still to be taken. A line longer than its room has a length greater than that.
+// Bytes `at` to `end` of the block are still to be taken. A line longer than its room has a length greater than that. Whether it is the last, and whether the file could not be read on.
 pub struct Taken {
     pub at: usize,
     pub end: usize,
     pub length: usize,
     pub last: bool,
+    pub broken: bool,
 }
 
 pub fn byte_at(block: &[u8], at: usize) -> u8 {
@@ -27,17 +28,23 @@ fn put_byte(line: &mut [u8], at: usize, byte: u8) -> usize {
 struct Place {
     at: usize,
     end: usize,
+    broken: bool,
 }
 
 // The next block where nothing of this one is left.
 fn filled(file: i32, block: &mut [u8], at: usize, end: usize) -> Place {
     if at < end {
-        return Place { at, end };
+        return Place {
+            at,
+            end,
+            broken: false,
+        };
     }
     let got = libc::read(file, block);
     Place {
         at: 0,
         end: io::count(got, block),
+        broken: got < 0,
     }
 }
 
@@ -58,6 +65,7 @@ pub fn take_line(file: i32, block: &mut [u8], from: usize, until: usize, line: &
                 end,
                 length,
                 last: true,
+                broken: place.broken,
             };
         }
         let byte = byte_at(block, at);
@@ -68,6 +76,7 @@ pub fn take_line(file: i32, block: &mut [u8], from: usize, until: usize, line: &
                 end,
                 length,
                 last: false,
+                broken: false,
             };
         }
         length = put_byte(line, length, byte);
@@ -78,5 +87,6 @@ pub fn take_line(file: i32, block: &mut [u8], from: usize, until: usize, line: &
         end,
         length,
         last: true,
+        broken: false,
     }
 }

@@ -2,11 +2,13 @@
 use super::parts::within;
 use super::reading::Taken;
 use super::reading::byte_at;
+use super::text::Said;
 use super::text::print;
 use super::text::print_number;
 use check::same;
 use std::num::wrapping_add_u64;
 use std::num::wrapping_add_usize;
+use std::num::wrapping_sub_usize;
 ghost use Prim.Native.Nat.{_<_};
 
 // What came of a line.
@@ -41,6 +43,14 @@ fn is_letter(byte: u8) -> bool {
     b'a' <= byte
 }
 
+fn is_digit(byte: u8) -> bool {
+    (b'0' <= byte) & (byte <= b'9')
+}
+
+fn last_of(words: &[u8]) -> u8 {
+    byte_at(words, wrapping_sub_usize(words.len(), 1))
+}
+
 // Whether words begin at this place of an answer, after a blank.
 fn words_follow(answered: &[u8], at: usize) -> bool {
     (byte_at(answered, at) == b' ') & is_letter(byte_at(answered, wrapping_add_usize(at, 1)))
@@ -55,7 +65,7 @@ fn as_expected(answered: &[u8], expected: &[u8]) -> bool {
     if !same(&answered[..end], expected) {
         return false;
     }
-    words_follow(answered, end) & !is_letter(byte_at(expected, 0))
+    words_follow(answered, end) & is_digit(last_of(expected))
 }
 
 pub fn hold(name: &[u8], place: u64, question: &[u8], expected: &[u8], answered: &[u8]) -> Came {
@@ -67,11 +77,12 @@ pub fn hold(name: &[u8], place: u64, question: &[u8], expected: &[u8], answered:
 }
 
 // An answer that none is expected beside: a line that could not be read or done is never passed over.
-pub fn show(name: &[u8], place: u64, answered: &[u8], clear: bool) -> Came {
-    if clear {
-        if 0 < answered.len() {
-            print_line(answered);
-        }
+pub fn show(name: &[u8], place: u64, answered: &[u8], said: Said) -> Came {
+    if said.silent {
+        return Came::Unasked;
+    }
+    if said.clear {
+        print_line(answered);
         return Came::Unasked;
     }
     print_place(name, place);
@@ -98,6 +109,18 @@ pub fn start() -> Progress {
         wrong: 0,
         over: false,
     }
+}
+
+// A file that cannot be read on is never passed over.
+pub fn count_broken(name: &[u8], progress: Progress, broken: bool) -> Progress {
+    if !broken {
+        return progress;
+    }
+    print_place(name, progress.lines);
+    print_line(b"cannot be read on");
+    let mut next = progress;
+    next.wrong = wrapping_add_u64(progress.wrong, 1);
+    next
 }
 
 // The progress after a line of which this came.

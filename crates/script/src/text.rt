@@ -2,10 +2,11 @@
 use libc::STDOUT_FILENO;
 use std::num::wrapping_add_usize;
 
-// The length of an answer in the text, and whether the line could be read and done.
+// The length of an answer in the text, whether the line could be read and done, and whether there is nothing to say.
 pub struct Said {
     pub length: usize,
     pub clear: bool,
+    pub silent: bool,
 }
 
 pub fn put_words(text: &mut [u8], from: usize, words: &[u8]) -> usize {
@@ -27,6 +28,7 @@ pub fn done() -> Said {
     Said {
         length: 0,
         clear: true,
+        silent: true,
     }
 }
 
@@ -34,6 +36,16 @@ pub fn answer(length: usize) -> Said {
     Said {
         length,
         clear: true,
+        silent: false,
+    }
+}
+
+// What a line of this length says that cannot be read or done.
+pub fn unclear(length: usize) -> Said {
+    Said {
+        length,
+        clear: false,
+        silent: false,
     }
 }
 
@@ -43,19 +55,13 @@ pub fn say(text: &mut [u8], words: &[u8]) -> Said {
 
 // What the desk says of a line that it cannot read or do.
 pub fn fault(text: &mut [u8], words: &[u8]) -> Said {
-    Said {
-        length: put_words(text, 0, words),
-        clear: false,
-    }
+    unclear(put_words(text, 0, words))
 }
 
 // A fault that names a limit.
 pub fn above(text: &mut [u8], words: &[u8], limit: u64) -> Said {
     let end = put_words(text, 0, words);
-    Said {
-        length: put_figure(text, end, limit),
-        clear: false,
-    }
+    unclear(put_figure(text, end, limit))
 }
 
 // A figure, after a blank where it is not the first.
@@ -69,7 +75,7 @@ pub fn put_figure(text: &mut [u8], from: usize, figure: u64) -> usize {
     put_words(text, at, &digits[..count])
 }
 
-fn wide(figure: u32) -> u64 {
+pub fn wide(figure: u32) -> u64 {
     figure as u64
 }
 

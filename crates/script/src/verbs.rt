@@ -28,13 +28,11 @@ pub enum Verb {
     Route,
     Fare,
     Edit,
-    Nothing,
     Unknown,
 }
 
 // What follows the verb.
 pub enum Object {
-    Nothing,
     Unknown,
     File,
     Printed,
@@ -77,9 +75,6 @@ fn verb_at(place: usize) -> Verb {
 }
 
 pub fn verb_of(word: &[u8]) -> Verb {
-    if word.len() == 0 {
-        return Verb::Nothing;
-    }
     verb_at(place_in(
         word,
         b"open;save;same;print;print-fare;new;number;length;alter;lend;fares;turn;link;turns;links;room;check;cost;search;route;fare;edit;",
@@ -88,7 +83,6 @@ pub fn verb_of(word: &[u8]) -> Verb {
 
 pub fn object_of(verb: Verb) -> Object {
     match verb {
-        Verb::Nothing => Object::Nothing,
         Verb::Unknown => Object::Unknown,
         Verb::Open | Verb::Save | Verb::Same => Object::File,
         Verb::Print | Verb::PrintFare => Object::Printed,

@@ -5,10 +5,13 @@ ghost use Prim.Native.Nat.{_≤_};
 ghost use lib.ListN.{length};
 ghost use Rattle.io.specs.Counts.{Counts};
 
+// A walk longer than the longest that is costed, with its origin, and some.
+pub const NUMBERS_ROOM: usize = 65600;
+
 // The most that a number of a line may be.
 pub const MOST: u64 = 4294967295;
 
-// What `closed` and `forbidden` stand for in a book.
+// What `closed` stands for in a book.
 const CLOSED: u64 = 65535;
 
 // A tab, and what some systems end a line with, are blanks too.

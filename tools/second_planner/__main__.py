@@ -4,16 +4,13 @@ import sys
 from inspect import signature
 from pathlib import Path
 
-import counting
 import planner
 from desk import TWO_BYTES, Desk, Fault, answers_expected, held, number_of, tally
 from files import files
 from scripts import scripts
 from writing import written, written_fares
 
-CRATES = Path(__file__).resolve().parents[2] / "crates"
-EXPECTED = CRATES / "faults" / "stdout"
-DESK = CRATES / "desk"
+DESK = Path(__file__).resolve().parents[2] / "crates" / "desk"
 
 # The scripts of data that are made; the others are written by hand.
 MADE_SCRIPTS = "drawn-*.desk", "full-size.desk", "altered.desk", "longest-walk.desk"
@@ -27,8 +24,6 @@ route BOOK ORIGIN DESTINATION               the route printer's line
 fare BOOK ORIGIN DESTINATION FARES          the fare printer's lines; FARES as for ./plan
 edit BOOK ORIGIN TURN WALK                  0 and two counts, then the labels of the edited book; WALK may be 'closed'
 sheet [FILE], fare-sheet [FILE]             what the printers print for such an input, or for standard input
-faults                                      what the program `faults` should print
-compare                                     whether that is its file stdout
 data [FOLDER]                               writes what is made for the program `desk`: in crates/desk, or in FOLDER,
                                             args, stdout, and the made scripts and files of data
 data-same                                   whether crates/desk has what it makes, and no such script besides
@@ -104,25 +99,6 @@ def fare_sheet(name=None):
     print(planner.fare_sheet(given(name)), end="")
 
 
-# What the program `faults` counts
-
-def faults():
-    for line in counting.counted().lines():
-        print(line)
-
-
-def compare():
-    expected = EXPECTED.read_text().splitlines()
-    lines = list(counting.counted().lines())
-    for line, other in zip(lines, expected):
-        if line != other:
-            print(f"the second planner: {line}; {EXPECTED.name}: {other}")
-    if lines == expected:
-        print(f"crates/faults/stdout is what the second planner gives, {len(lines)} lines")
-    else:
-        sys.exit("crates/faults/stdout is not what the second planner gives")
-
-
 # What the program `desk` reads and prints
 
 def made_before():
@@ -179,8 +155,6 @@ QUESTIONS = {
     "edit": edit,
     "sheet": sheet,
     "fare-sheet": fare_sheet,
-    "faults": faults,
-    "compare": compare,
     "data": write_data,
     "data-same": compare_data,
     "desk": hold,

@@ -1,4 +1,4 @@
-"""Books drawn from a seed, good and damaged, and what is asked of them, as the crate `faults` draws them; no rule of the planner is decided here."""
+"""Books drawn from a seed, good and damaged, and what is asked of them; no rule of the planner is decided here."""
 
 from collections import namedtuple
 
@@ -6,11 +6,9 @@ import writing
 from planner import CLOSED, FORBIDDEN
 
 SEED = 7
-BOOKS = 4000
 
-# More than the largest of these books takes, and more than one has turns or links, or its longest route has links.
+# More than the largest of these books takes.
 BOOK_ROOM = 256
-ROOM = 16
 
 MOST_PAIRS = 12
 
@@ -36,9 +34,6 @@ HEADER_BYTES, LINE_BYTES, LINK_BYTES, JOIN_BYTES = 17, 2, 8, 6
 OTHER_MARK = 21581
 ABOVE_LIMITS = 65534
 
-# A damaged byte may call for any number.
-ANY_NUMBER = None
-
 
 class Generator:
     """Each state follows from the one before, and a draw is taken from its upper half."""
@@ -58,9 +53,6 @@ class Generator:
 
 # The bytes past the length are kept, since damage may cut a book short.
 Book = namedtuple("Book", "room length")
-
-# What check should give, where the damage calls for one number.
-Damaged = namedtuple("Damaged", "book number place")
 
 Questions = namedtuple("Questions", "origin turn walk other_origin more")
 
@@ -165,41 +157,41 @@ def bad_entry(generator, book, number):
     entry = generator.drawn(entries)
     field = generator.drawn(3)
     if entries == 0:
-        return Damaged(book, 0, 0)
+        return book
     size = {6: LINE_BYTES, 7: LINK_BYTES, 8: JOIN_BYTES, 9: JOIN_BYTES}[number]
     if number == 6:
         field = 0
     at = table_place(book.room, number) + size * entry + 2 * field
-    return Damaged(with_number(book, at, ABOVE_LIMITS), number, entry)
+    return with_number(book, at, ABOVE_LIMITS)
 
 
 def any_byte(generator, book, value):
     room = bytearray(book.room)
     room[generator.drawn(book.length)] = value % 256
-    return Damaged(Book(bytes(room), book.length), ANY_NUMBER, 0)
+    return Book(bytes(room), book.length)
 
 
 def damaged(generator, book):
-    """For each kind it is known beforehand which number check gives, except for a byte that is altered; most books stay good."""
+    """Kinds 1 to 9 are for the number that check gives; most books stay good."""
     kind = generator.drawn(24)
     choice = generator.drawn(1536)
     if kind == 1:
-        return Damaged(Book(book.room, choice % 17), 1, 0)
+        return Book(book.room, choice % 17)
     if kind == 2:
-        return Damaged(with_number(book, 0, OTHER_MARK), 2, 0)
+        return with_number(book, 0, OTHER_MARK)
     if kind == 3:
-        return Damaged(with_number(book, VERSION, choice // 2 * 2), 3, 0)
+        return with_number(book, VERSION, choice // 2 * 2)
     if kind == 4:
         at = NODES + 2 * (choice % COUNTS_AND_CARRY_OVER)
-        return Damaged(with_number(book, at, ABOVE_LIMITS), 4, 0)
+        return with_number(book, at, ABOVE_LIMITS)
     if kind == 5:
         length = book.length + 1 if choice % 2 == 0 else book.length - 1
-        return Damaged(Book(book.room, length), 5, 0)
+        return Book(book.room, length)
     if kind in (6, 7, 8, 9):
         return bad_entry(generator, book, kind)
     if kind in (10, 11, 12):
         return any_byte(generator, book, choice)
-    return Damaged(book, 0, 0)
+    return book
 
 
 def questions(generator, book):

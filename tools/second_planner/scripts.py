@@ -224,7 +224,7 @@ def altered_number(generator, book, damaged):
 
 def damaged_book(generator, book):
     """As drawn; where the book stayed good, and for some others, one number is altered."""
-    damaged = drawing.damaged(generator, book).book
+    damaged = drawing.damaged(generator, book)
     if damaged == book or generator.drawn(6) == 0:
         return altered_number(generator, book, damaged)
     return damaged

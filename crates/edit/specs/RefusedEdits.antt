@@ -1,18 +1,12 @@
 -- Document 01, "How far the contracts go" and "Habits that give a neat wrong sheet": what a wrong edit would answer and leave, on book A.
 use Prim.Native.Nat.{ℕ}
-use mathlib.Core.List.{List, [], _∷_, map}
+use mathlib.Core.List.{List, [], _∷_}
 use Rattle.book.specs.Entries.{barred}
-use Rattle.book.specs.BookA.{bookA}
-use Rattle.walk.specs.Labels.{Entry, Table, noEntry, startBack}
-use Rattle.walk.specs.Cases.{closed, changedA, entry}
+use Rattle.walk.specs.Labels.{noEntry, startBack}
+use Rattle.walk.specs.Cases.{entry}
+use Rattle.walk.specs.Labelled.{Labelled, asTable, given, shut}
 use Rattle.edit.specs.declared.Edited.the-variants.{Done}
 use Rattle.edit.specs.Edit.{Edit}
-
--- a book and its label entries
-pub record Labelled : Type 0 where
-  pub book : List ℕ
-  pub turns : List Entry
-  pub links : List Entry
 
 -- the two counts of an edit that says it is done, and what it leaves
 pub record Outcome : Type 0 where
@@ -28,29 +22,11 @@ pub record Row : Type 0 where
   pub right : Outcome
   pub claimed : Outcome
 
--- book A with P1 and P2
-abbrev pub given : Labelled
-given =
-    record {
-      book = bookA;
-      turns = entry 90 2 startBack ∷ entry 342 5 3 ∷ entry 153 3 0 ∷ entry 207 4 2 ∷ entry 442 2 startBack ∷ [];
-      links = entry 40 1 startBack ∷ entry 90 2 0 ∷ entry 342 5 1 ∷ entry 153 3 2 ∷ entry 403 1 startBack ∷ [];
-    }
-
--- book A with turn 3 closed, as in P5: turns 1 and 3 and link 2 differ
-abbrev pub shut : Labelled
-shut =
-    record {
-      book = changedA (closed 3 ∷ []);
-      turns = entry 90 2 startBack ∷ noEntry ∷ entry 153 3 0 ∷ noEntry ∷ entry 442 2 startBack ∷ [];
-      links = entry 40 1 startBack ∷ entry 90 2 0 ∷ entry 442 2 4 ∷ entry 153 3 2 ∷ entry 403 1 startBack ∷ [];
-    }
-
 -- the closed turn's own entry wiped, those further on as they were
 abbrev pub wiped : Labelled
 wiped =
     record {
-      book = changedA (closed 3 ∷ []);
+      book = shut .book;
       turns = entry 90 2 startBack ∷ entry 342 5 3 ∷ entry 153 3 0 ∷ noEntry ∷ entry 442 2 startBack ∷ [];
       links = given .links;
     }
@@ -79,10 +55,6 @@ wrongEdits any-turns any-links =
     -- one that closes a change by wiping its own entry only
     ∷ closing (leaving any-turns any-links wiped)
     ∷ []
-
--- entries as they lie in lent buffers
-abbrev pub asTable : List Entry → Table
-asTable entries = record { cost = map (λ (e : Entry). e .cost) entries; links = map (λ (e : Entry). e .links) entries; back = map (λ (e : Entry). e .back) entries }
 
 -- the contract allows an outcome of the row's edit
 abbrev pub Allows : Row → Outcome → Type 0

@@ -22,6 +22,8 @@ pub mod RouteLaws
 pub mod RouteRoom
 pub mod Determined
 pub mod NoRouteA
+pub mod SearchesRefused
+pub mod RoutesRefused
 pub mod Carrying
 pub mod LentOn
 pub mod LabelArguments

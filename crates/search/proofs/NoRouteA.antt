@@ -10,7 +10,7 @@ use Rattle.search.specs.declared.Routed.{Routed}
 use Rattle.search.specs.declared.Routed.the-variants.{Refused}
 use Rattle.search.specs.Route.{RouteOnward, no-walk, no-room, done}
 
-nowhere : (walk : List ℕ) → NodeWalk (viewA (closed 3 ∷ closed 4 ∷ [])) 0 3 walk → ⊥
+pub nowhere : (walk : List ℕ) → NodeWalk (viewA (closed 3 ∷ closed 4 ∷ [])) 0 3 walk → ⊥
 nowhere = cases-hold .1 .1 .1 .1 .1 .0 .1 .0
 
 pub fourteen : (buffer : List ℕ) (answer : Routed) (after : List ℕ) → RouteOnward (viewA (closed 3 ∷ closed 4 ∷ [])) 0 3 buffer answer after → (answer ≡ Refused (refusal 14 0)) × (after ≡ buffer)

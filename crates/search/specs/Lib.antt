@@ -1,4 +1,6 @@
 pub mod Tests
 pub mod Search
 pub mod Route
+pub mod RefusedSearches
+pub mod RefusedRoutes
 pub mod steps

@@ -22,5 +22,6 @@ pub mod Agreement
 pub mod BetterLaws
 pub mod CasesHold
 pub mod SheetsRefused
+pub mod LabelledTrue
 pub mod ReadOn
 pub mod theory

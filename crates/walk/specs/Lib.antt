@@ -6,4 +6,5 @@ pub mod Given
 pub mod Counting
 pub mod Cases
 pub mod RefusedSheets
+pub mod Labelled
 pub mod steps

@@ -15,7 +15,7 @@ MOST_PAIRS = 12
 # What is drawn, each of ten as often as the others: few nodes, so that many links join, and many figures of 0, so that many walks cost the same.
 NODES_DRAWN = [1, 2, 2, 3, 3, 3, 3, 4, 4, 5]
 LINKS_DRAWN = [0, 2, 3, 4, 5, 6, 6, 6, 6, 6]
-HEADWAYS = [0, 0, 0, 0, 0, 1, 1, 2, 3, 3]
+HEADWAYS = [0, 0, 1, 1, 2, 3, 3, 3, 3, 4]  # mostly above 0, so that a boarding shows, and often the same for two lines
 RIDES = [0, 0, 0, 0, 0, 0, 1, 1, 2, 2]
 WALKS = [0, 0, 0, 0, 1, 1, 1, 2, 3, CLOSED]
 EXTRAS = [0, 0, 1, 2, FORBIDDEN, FORBIDDEN, FORBIDDEN, FORBIDDEN, FORBIDDEN, FORBIDDEN]
@@ -54,7 +54,7 @@ class Generator:
 # The bytes past the length are kept, since damage may cut a book short.
 Book = namedtuple("Book", "room length")
 
-Questions = namedtuple("Questions", "origin turn walk other_origin more")
+Questions = namedtuple("Questions", "origin turn walk other_origin")
 
 
 def given(book):
@@ -142,7 +142,7 @@ def good_book(generator):
     nodes = generator.one_of(NODES_DRAWN)
     if shaped:
         nodes = max(nodes, SHAPE)
-    lines = 1 + generator.drawn(2)
+    lines = 1 + generator.drawn(3)
     carry_over = generator.drawn(3)
     headways = [generator.one_of(HEADWAYS) for _ in range(lines)]
     links = drawn_links(generator, shaped, nodes, lines)
@@ -207,5 +207,4 @@ def questions(generator, book):
     turns = number_in(book.room, TURNS)
     turn = generator.drawn(turns + 1 if turns < 65535 else 0)
     walk = generator.one_of(NEW_WALKS)
-    more = 1 + generator.drawn(65534)
-    return Questions(origin, turn, walk, other_origin, more)
+    return Questions(origin, turn, walk, other_origin)

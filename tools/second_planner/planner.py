@@ -1,4 +1,4 @@
-"""The rules of document 01, and of request 3 in document 02, written a second time from the documents alone."""
+"""The rules of document 01, and of requests 1 and 3 in document 02, written a second time from the documents alone."""
 
 from collections import namedtuple
 from heapq import heappop, heappush
@@ -130,8 +130,21 @@ def permitted(tables, origin, walk):
             and all(turn is not None and tables.turns[turn].walk != CLOSED for turn in turns)
             and all(tables.listed_extras.get(pair) != FORBIDDEN for pair in successive(turns)))
 
-def cost_of_link(tables, link):
-    return tables.links[link].ride + (tables.headways[tables.links[link].line] + 1) // 2
+def wait(tables, link):
+    """Half the headway of its line, rounded up."""
+    return (tables.headways[tables.links[link].line] + 1) // 2
+
+def boarding(tables, turn):
+    # Document 02, request 1: who has no walk and stays on the line keeps the seat.
+    return turn.walk > 0 or tables.links[turn.first].line != tables.links[turn.second].line
+
+def cost_of_start(tables, link):
+    return wait(tables, link) + tables.links[link].ride
+
+def cost_of_turn(tables, turn):
+    """Its walk, the wait where it is a boarding, and the ride of the link that it enters."""
+    waited = wait(tables, turn.second) if boarding(tables, turn) else 0
+    return turn.walk + waited + tables.links[turn.second].ride
 
 def extra_between(tables, first, second):
     listed = tables.listed_extras.get((first, second))
@@ -142,8 +155,8 @@ def extra_between(tables, first, second):
 
 def cost(tables, walk):
     turns = turns_of(tables, walk)
-    return (sum(cost_of_link(tables, link) for link in walk)
-            + sum(tables.turns[turn].walk for turn in turns)
+    return (sum(cost_of_start(tables, first) for first in walk[:1])
+            + sum(cost_of_turn(tables, tables.turns[turn]) for turn in turns)
             + sum(extra_between(tables, first, second) for first, second in successive(turns)))
 
 # Labels
@@ -181,26 +194,25 @@ def labels_by_listing(tables, origin):
 def labels_by_heap(tables, origin):
     """The turn with the least entry left offers its walk, one link longer, to the turns that may follow it."""
     # Equal walks to a turn first differ one link further back, and turns ascend by first link: the smaller back wins.
-    link_costs = [cost_of_link(tables, link) for link in range(tables.counts.links)]
-    link_entries = [Entry(link_costs[number], 1, NO_BACK) if link.from_node == origin else NO_ENTRY
+    link_entries = [Entry(cost_of_start(tables, number), 1, NO_BACK) if link.from_node == origin else NO_ENTRY
                     for number, link in enumerate(tables.links)]
     turn_entries = [NO_ENTRY] * tables.counts.turns
     followers = [[] for _ in tables.links]
-    waiting = []
+    offered = []
 
     def offer(entry, number):
         if entry < turn_entries[number]:
             turn_entries[number] = entry
-            heappush(waiting, (entry, number))
+            heappush(offered, (entry, number))
 
     for number, turn in enumerate(tables.turns):
         if turn.walk != CLOSED:
-            added = turn.walk + link_costs[turn.second]
+            added = cost_of_turn(tables, turn)
             followers[turn.first].append((number, added))
             if tables.links[turn.first].from_node == origin:
-                offer((link_costs[turn.first] + added, 2, NO_BACK), number)
-    while waiting:
-        entry, number = heappop(waiting)
+                offer((cost_of_start(tables, turn.first) + added, 2, NO_BACK), number)
+    while offered:
+        entry, number = heappop(offered)
         if entry != turn_entries[number]:
             continue  # a better walk was found after this one had been put in
         total, links, _ = entry

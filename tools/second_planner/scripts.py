@@ -23,10 +23,11 @@ STEPS = [1, 2, 500, 500, 1000, 1000, 1001, 5000, 5000, 200000]
 METRES = [0, 1, 400, 999, 1000, 1001, 4000, 5000, 12000, 200000]
 WON = [0, 1, 100, 100, 550, 550, 800, 800, 1350, 100000]
 
-# Headways, rides and walks of larger books: small, so that many walks cost the same, or up to their limits.
-SMALL_FIGURES = [0, 0, 1, 1, 2, 3], [0, 1, 1, 2, 2, 3, 3, 4, 5, 8], [0, 0, 1, 1, 2, 3, 5, planner.CLOSED]
+# Headways, rides and walks of larger books: small, so that many walks cost the same, or up to their limits; half of
+# the walks are 0, so that passengers often stay in their seat.
+SMALL_FIGURES = [0, 1, 1, 2, 3, 3], [0, 1, 1, 2, 2, 3, 3, 4, 5, 8], [0, 0, 0, 0, 1, 2, 3, planner.CLOSED]
 ANY_FIGURES = (
-    [0, 1, 299, 300, 7200], [0, 60, 90, 120, 240, 600, 3599, 36000], [0, 0, 30, 45, 60, 120, 3600, planner.CLOSED])
+    [0, 1, 299, 300, 7200], [0, 60, 90, 120, 240, 600, 3599, 36000], [0, 0, 0, 0, 30, 60, 3600, planner.CLOSED])
 LARGER_EXTRAS = [0, 1, 60, 3600, planner.FORBIDDEN, planner.FORBIDDEN, planner.FORBIDDEN]
 MOST_LARGER_TURNS, MOST_LARGER_PAIRS = 200, 60
 
@@ -123,12 +124,13 @@ def drawn_book(generator, script, remark):
 # One thing that questions are asked under, and that is put back after them
 
 @contextmanager
-def altered_figure(generator, script, more=1):
+def altered_figure(generator, script):
     desk = script.desk
     buffer = generator.one_of([buffer for buffer in desk.labels if desk.lent_length(buffer)])
     entry = generator.drawn(desk.lent_length(buffer))
     held, past = desk.labels[buffer][entry], 4294967296 if buffer.endswith("cost") else 65536
-    figures = [figure % past for figure in (held + 1, held + 1, held - 1, held - 1, held + more, 0, 1, 65534, past - 1)]
+    other = held + 1 + generator.drawn(65534)
+    figures = [figure % past for figure in (held + 1, held + 1, held - 1, held - 1, other, 0, 1, 65534, past - 1)]
     script.do("alter", buffer, entry, generator.one_of([figure for figure in figures if figure != held]))
     yield
     script.ask(buffer.split("-")[0], entry)
@@ -268,7 +270,7 @@ def ask_labels(generator, script):
         ask_both()  # no search yet: all figures are 0
     script.ask("search", asked.origin)
     for _ in range(3 if script.links() else 0):
-        with altered_figure(generator, script, asked.more):
+        with altered_figure(generator, script):
             ask_both()
     script.route(asked.origin, asked.other_origin)
     kind = generator.drawn(3)
@@ -368,7 +370,7 @@ def ask_fares(generator, script):
         with other_length(generator, script):
             script.ask("fare", asked.origin, asked.other_origin)
     elif kind == 1 and script.links():
-        with altered_figure(generator, script, asked.more):
+        with altered_figure(generator, script):
             script.ask("fare", asked.origin, asked.other_origin)
 
 

@@ -19,7 +19,7 @@ use Rattle.book.proofs.Limits.{both}
 use Rattle.book.proofs.GoodBook.{good-book}
 use Rattle.book.proofs.WalkWritten.{WalkWritten, walk-written}
 use Rattle.walk.specs.View.{View, viewOf, walksOf, listedIn, upTo}
-use Rattle.walk.specs.Walks.{twos, all, turnOf, turnsOf, between, allowed, seconds, leaves, permitted, costOf}
+use Rattle.walk.specs.Walks.{twos, all, turnOf, turnsOf, between, allowed, seconds, turnWait, firstWait, leaves, permitted, costOf}
 use Rattle.walk.specs.Labels.{Key, Less, keyOf, Better, Chosen, TurnWalk, LinkWalk, Entry, Table, entryAt, startBack, noEntry, linkBack, turnBack, True, chosen, absent, TrueTurn, TrueLink, TrueLabels}
 use Rattle.walk.proofs.theory.Laws.{clash}
 use Rattle.walk.proofs.Filling.{up-to-length, up-to-at}
@@ -74,6 +74,13 @@ module _ (U : View) (walks : ℕ → ℕ) (closed : ℕ) (kept : (t : ℕ) → (
   leaves-kept r [] = refl
   leaves-kept r (l ∷ rest) = refl
 
+  first-wait-kept : (links : List ℕ) → firstWait U links ≡ firstWait after links
+  first-wait-kept [] = refl
+  first-wait-kept (l ∷ rest) = refl
+
+  wait-kept : (t : ℕ) → (t ≡ closed → ⊥) → turnWait U t ≡ turnWait after t
+  wait-kept t n = rw (kept t n)
+
   -- a walk that avoids the closed turn
   module _ (links : List ℕ) (avoids : Avoids closed (turnsOf U links)) where
     permitted-kept : (r : ℕ) → permitted U r links ≡ permitted after r links
@@ -87,6 +94,8 @@ module _ (U : View) (walks : ℕ → ℕ) (closed : ℕ) (kept : (t : ℕ) → (
     cost-kept : costOf U links ≡ costOf after links
     unfolding costOf turnOf
     cost-kept = rw (
+      first-wait-kept links,
+      map-kept closed (turnWait U) (turnWait after) wait-kept (turnsOf U links) avoids,
       map-kept closed (U .walk) walks kept (turnsOf U links) avoids,
       twos-kept closed (λ p t. seconds (between U p t)) (λ p t. seconds (between after p t)) (λ p t n m. ap seconds (between-kept p t n m)) (turnsOf U links) avoids,
     )

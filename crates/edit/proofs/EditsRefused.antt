@@ -11,12 +11,13 @@ use Rattle.walk.specs.Labels.{Table}
 use Rattle.walk.specs.Counting.{sameEntry, differing}
 use Rattle.walk.specs.Cases.{All}
 use Rattle.walk.specs.Labelled.{asTable, given, shut}
-use Rattle.walk.proofs.LabelledTrue.{shut-good, given-true, shut-true, differ, not-equal}
+use Rattle.walk.proofs.CaseTests.{differ}
+use Rattle.walk.proofs.LabelledTrue.{shut-good, given-true, shut-true, right-alone}
 use Rattle.search.specs.Tests.{nodeTest, fits, lengthTest}
 use Rattle.edit.specs.declared.Edited.{Edited}
 use Rattle.edit.specs.declared.Edited.the-variants.{Done}
 use Rattle.edit.specs.Edit.{turnTest, editGivenBack, done}
-use Rattle.edit.specs.RefusedEdits.{Outcome, Row, wiped, leaving, closing, reopening, wrongEdits, Allows, RightAlone}
+use Rattle.edit.specs.RefusedEdits.{Outcome, Row, wiped, leaving, closing, reopening, wrongEdits, Allows, Refused}
 use Rattle.edit.proofs.Determined.{edit-determined}
 
 -- the right outcomes
@@ -36,22 +37,22 @@ numbersOf answer book turns links =
 abbrev numbersIn : Outcome → List ℕ
 numbersIn outcome = numbersOf (Done (outcome .altered-turns) (outcome .altered-links)) (outcome .after .book) (asTable (outcome .after .turns)) (asTable (outcome .after .links))
 
-row-refused : (row : Row) → Allows row (row .right) → differ (numbersIn (row .claimed)) (numbersIn (row .right)) ≡ true → RightAlone row
-row-refused row right h = (right, denied)
-  where
-    denied : Allows row (row .claimed) → ⊥
-    denied claimed =
-        let (answer, book, turns, links) = edit-determined _ _ _ _ _ _ _ _ _ _ _ _ _ _ claimed right in
-        not-equal (numbersIn (row .claimed)) (numbersIn (row .right)) h (λ i. numbersOf (answer i) (book i) (turns i) (links i))
+one-outcome : (row : Row) (one other : Outcome) → Allows row one → Allows row other → numbersIn one ≡ numbersIn other
+one-outcome row one other a b =
+    let (answer, book, turns, links) = edit-determined _ _ _ _ _ _ _ _ _ _ _ _ _ _ a b in
+    λ i. numbersOf (answer i) (book i) (turns i) (links i)
 
-closing-refused : (claimed : Outcome) → differ (numbersIn claimed) (numbersIn (leaving 2 1 shut)) ≡ true → RightAlone (closing claimed)
-closing-refused claimed h = row-refused (closing claimed) (closing-right claimed) h
+row-refused : (row : Row) → Allows row (row .right) → differ (numbersIn (row .claimed)) (numbersIn (row .right)) ≡ true → Refused row
+row-refused row = right-alone (Allows row) numbersIn (one-outcome row) (row .right) (row .claimed)
 
-reopening-refused : (claimed : Outcome) → differ (numbersIn claimed) (numbersIn (leaving 2 1 given)) ≡ true → RightAlone (reopening claimed)
-reopening-refused claimed h = row-refused (reopening claimed) (reopening-right claimed) h
+closing-refused : (claimed : Outcome) → differ (numbersIn claimed) (numbersIn (leaving 2 1 shut)) ≡ true → Refused (closing claimed)
+closing-refused claimed = row-refused (closing claimed) (closing-right claimed)
+
+reopening-refused : (claimed : Outcome) → differ (numbersIn claimed) (numbersIn (leaving 2 1 given)) ≡ true → Refused (reopening claimed)
+reopening-refused claimed = row-refused (reopening claimed) (reopening-right claimed)
 
 -- none of the wrong outcomes is allowed, and the right one is
-pub edits-refused : (any-turns any-links : ℕ) → All RightAlone (wrongEdits any-turns any-links)
+pub edits-refused : (any-turns any-links : ℕ) → All Refused (wrongEdits any-turns any-links)
 unfolding withNumber
 edits-refused any-turns any-links =
     let nothing-done = closing-refused (leaving any-turns any-links given) refl in

@@ -10,7 +10,7 @@ use lib.Seq.{ext-getD, getD-set-same, getD-set-other, getD-take, getD-drop}
 use Rattle.book.specs.declared.Counts.{Counts}
 use Rattle.book.specs.declared.Checked.the-variants.{Good}
 use Rattle.book.specs.Number.{numberAt, withNumber}
-use Rattle.book.specs.Entries.{linkFrom, linkTo, linkRide, turnWalk, secondsGood}
+use Rattle.book.specs.Entries.{linkFrom, linkTo, linkLine, linkRide, turnWalk, secondsGood}
 use Rattle.book.specs.Tables.{joinBytes, turnsAt, pairsAt, part, turnTable}
 use Rattle.book.specs.Check.{checkOf}
 use Rattle.book.specs.Changes.{withWalk}
@@ -57,6 +57,7 @@ module _ (book : List ℕ) (counts : Counts) (turn walk : ℕ) (checked : checkO
         links = refl;
         turns = refl;
         from = λ l h. ap (λ (table : List ℕ). linkFrom table l) (wrote .links);
+        line = λ l h. ap (λ (table : List ℕ). linkLine table l) (wrote .links);
         to = λ l h. ap (λ (table : List ℕ). linkTo table l) (wrote .links);
         ride = λ l h. ap (λ (table : List ℕ). linkRide table l) (wrote .links);
         headway = λ l h. rw (wrote .lines, wrote .links);

@@ -4,7 +4,7 @@ use mathlib.Core.List.{List, [], _∷_}
 use Rattle.book.specs.Entries.{barred}
 use Rattle.walk.specs.Labels.{noEntry, startBack}
 use Rattle.walk.specs.Cases.{entry}
-use Rattle.walk.specs.Labelled.{Labelled, asTable, given, shut}
+use Rattle.walk.specs.Labelled.{Labelled, asTable, given, shut, RightAlone}
 use Rattle.edit.specs.declared.Edited.the-variants.{Done}
 use Rattle.edit.specs.Edit.{Edit}
 
@@ -62,6 +62,5 @@ Allows row outcome =
     Edit (row .before .book) 0 (row .turn) (row .walk) (asTable (row .before .turns)) (asTable (row .before .links))
     (Done (outcome .altered-turns) (outcome .altered-links)) (outcome .after .book) (asTable (outcome .after .turns)) (asTable (outcome .after .links))
 
--- it allows what is right and not what is claimed
-abbrev pub RightAlone : Row → Type 0
-RightAlone row = Allows row (row .right) × (Allows row (row .claimed) → ⊥)
+abbrev pub Refused : Row → Type 0
+Refused row = RightAlone (Allows row) (row .right) (row .claimed)

@@ -1,23 +1,19 @@
 -- One test computes every ride's fare, and tells which are the right ones and which are not.
 use mathlib.Core.Path.{_≡_, refl, ap}
-use mathlib.Core.List.{List, [], _∷_, map}
+use mathlib.Core.List.{map}
 use mathlib.Core.Bool.{Bool, true, not, _&&_}
 use lib.Dec.{eqb}
 use borrow.Author.Tests.{eqb-true, eqb-false, not-true}
 use Rattle.book.specs.FirstBad.{firstBadFrom}
 use Rattle.book.proofs.Limits.{both}
 use Rattle.walk.specs.Walks.{all}
+use Rattle.walk.specs.Cases.{All}
+use Rattle.walk.proofs.EveryRow.{every-row}
 use Rattle.fare.specs.declared.Won.{Won}
 use Rattle.fare.specs.Amounts.{startedSteps, inWon}
 use Rattle.fare.specs.Fare.{fareOf}
-use Rattle.fare.specs.Examples.{Ride, faresIn, Costs, Every, none-left, and, rides}
+use Rattle.fare.specs.Examples.{Ride, faresIn, Costs, rides}
 use Rattle.fare.specs.RefusedFares.{Wrong, Denied, wrongs}
-
-every : {Row : Type 0} (Holds : Row → Type 0) (test : Row → Bool) → ((row : Row) → test row ≡ true → Holds row) → (rows : List Row) → all (map test rows) ≡ true → Every Holds rows
-every Holds test tells [] h = none-left
-every Holds test tells (row ∷ rest) h =
-    let (here, later) = both (test row) (all (map test rest)) h in
-    and (tells row here) (every Holds test tells rest later)
 
 abbrev fare : Ride → Won
 fare ride = fareOf (faresIn (ride .network)) (ride .links)
@@ -46,8 +42,8 @@ all-denied : all (map denied wrongs) ≡ true
 unfolding denied costs fareOf startedSteps firstBadFrom
 all-denied = refl
 
-pub rides-cost : Every Costs rides
-rides-cost = every Costs costs costs-so rides all-cost
+pub rides-cost : All Costs rides
+rides-cost = every-row Costs costs costs-so rides all-cost
 
-pub wrongs-denied : Every Denied wrongs
-wrongs-denied = every Denied denied denied-so wrongs all-denied
+pub wrongs-denied : All Denied wrongs
+wrongs-denied = every-row Denied denied denied-so wrongs all-denied

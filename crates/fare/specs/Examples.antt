@@ -83,8 +83,3 @@ rides =
 
 abbrev pub Costs : Ride → Type 0
 Costs ride = fareOf (faresIn (ride .network)) (ride .links) ≡ inWon (ride .won)
-
--- of every row of a table
-pub data Every {Row : Type 0} (Holds : Row → Type 0) : List Row → Type 0 where
-  none-left : Every Holds []
-  and : {row : Row} {rest : List Row} → Holds row → Every Holds rest → Every Holds (row ∷ rest)

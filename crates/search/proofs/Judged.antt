@@ -170,7 +170,7 @@ module _ (U : View) (good : GoodView U) (bounds : Limited U) (few : U .turns < s
     turn-fits : (t : ℕ) → t < U .turns → {k : Key} {b : Back} → ofTurn t k b → Ranked 2 k b × (k .cost < noEntry .cost)
     turn-fits t h (fresh s) =
         let (o, leave) = both (isOpen U t) (eqb (U .from (U .first t)) r) (holds _ s) in
-        (refl, omega (arith, bounds .link (U .first t) (good .first t h), bounds .link (U .second t) (good .second t h), bounds .walk t h o))
+        (refl, omega (arith, bounds .link (U .first t) (good .first t h), bounds .turn t h o))
     turn-fits t h (through p {k} hp f e) =
         let (fine, same) = reached-turn p hp e in
         let (low, high, cheap) = limits (entryAt turns p) fine in

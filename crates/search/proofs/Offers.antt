@@ -20,11 +20,12 @@ use Rattle.walk.specs.declared.Between.{Between}
 use Rattle.walk.specs.declared.Step.{Step}
 use Rattle.walk.specs.declared.Step.the-variants.{Seconds}
 use Rattle.walk.specs.View.{View, viewWith, foundOr}
-use Rattle.walk.specs.Walks.{lookUp, listedAs, carriedIf, between, allowed, seconds, linkCost}
+use Rattle.walk.specs.Walks.{lookUp, listedAs, carriedIf, between, allowed, seconds}
+use Rattle.walk.specs.steps.Costs.{turnCost}
 use Rattle.walk.specs.Labels.{Entry, Table, entryAt}
 use Rattle.walk.specs.steps.Pairs.{listedAt, stepTo, secondsMore}
 use Rattle.walk.specs.steps.ViewNet.{isOpen}
-use Rattle.walk.proofs.GoodView.{link-limit}
+use Rattle.walk.proofs.GoodView.{turn-limit}
 use Rattle.walk.proofs.LimitedView.{extra-limit as any-extra}
 use Rattle.walk.proofs.NextLink.{stepped, open-step}
 use Rattle.walk.proofs.theory.Laws.{clash}
@@ -73,7 +74,7 @@ module _ (book : List ℕ) (counts : Counts) (checked : checkOf book ≡ Good co
   adds-less walks t stands {step} {more} listed small extra stepping adds =
       let U = viewWith book counts walks in
       let (goes, same) = seconds-of (isOpen U t && allowed stands) (secondsMore U (seconds stands) t) (sym (stepping ∙ step-as U stands t) ∙ adds) in
-      let link : linkCost U (U .second t) ≤ 39600 = link-limit book counts walks checked _ (g .turn t listed .second) in
+      let turn : turnCost U t ≤ getD walks t 0 + 39600 = turn-limit book counts walks checked t listed in
       let stood : seconds stands ≤ 3600 = extra (both (isOpen U t) (allowed stands) goes .1) in
       omega arith
 

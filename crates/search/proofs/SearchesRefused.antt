@@ -14,17 +14,18 @@ use Rattle.walk.specs.RefusedSheets.{diamond, countsOfDiamond}
 use Rattle.walk.specs.Labelled.{Labelled, asTable, given}
 use Rattle.walk.proofs.KeyLaws.{less-irrefl}
 use Rattle.walk.proofs.SheetsRefused.{sheets-refused}
-use Rattle.walk.proofs.LabelledTrue.{given-true, differ, not-equal}
+use Rattle.walk.proofs.CaseTests.{differ}
+use Rattle.walk.proofs.LabelledTrue.{given-true, right-alone}
 use Rattle.search.specs.declared.Searched.{Searched}
-use Rattle.search.specs.declared.Searched.the-variants.{Done, Refused}
+use Rattle.search.specs.declared.Searched.the-variants.{Done, Refused as SearchRefused}
 use Rattle.search.specs.declared.Picked.the-variants.{Turn}
 use Rattle.search.specs.Tests.{nodeTest, fits, lengthTest}
 use Rattle.search.specs.Search.{searchGivenBack, refused, done}
-use Rattle.search.specs.RefusedSearches.{Outcome, Row, leaving, unlabelled, withoutTheFirst, tooLong, ofBookA, ofTooLong, wrongSearches, Allows, RightAlone, OfAlike, FirstOfAlike}
+use Rattle.search.specs.RefusedSearches.{Outcome, Row, leaving, unlabelled, withoutTheFirst, ofBookA, withTurnTooMany, wrongSearches, Allows, Refused, OfAlike, FirstOfAlike}
 use Rattle.search.specs.steps.Picking.{keyAt}
 use Rattle.search.proofs.Determined.{search-determined}
 
--- the last sheet's book
+-- the book of the tenth sheet
 diamond-good : checkOf diamond ≡ Good countsOfDiamond
 diamond-good = sheets-refused .1 .1 .1 .1 .1 .1 .1 .1 .1 .0 .0
 
@@ -32,9 +33,9 @@ book-a-right : (claimed : Outcome) → Allows (ofBookA claimed) (leaving Done gi
 unfolding nodeTest fits lengthTest
 book-a-right claimed = done countsA (rw (book-a-good) refl) refl given-true
 
-too-long-right : (claimed : Outcome) → Allows (ofTooLong claimed) (leaving (Refused (refusal 12 0)) tooLong)
+turn-too-many-right : (claimed : Outcome) → Allows (withTurnTooMany claimed) (withTurnTooMany claimed .right)
 unfolding nodeTest fits lengthTest
-too-long-right claimed = refused (refusal 12 0) (rw (diamond-good) refl) refl refl refl
+turn-too-many-right claimed = refused (refusal 12 0) (rw (diamond-good) refl) refl refl refl
 
 -- the numbers that a search answers and leaves
 abbrev numbersOf : Searched → Table → Table → List ℕ
@@ -44,27 +45,27 @@ numbersOf answer turns links =
 abbrev numbersIn : Outcome → List ℕ
 numbersIn outcome = numbersOf (outcome .answer) (asTable (outcome .turns)) (asTable (outcome .links))
 
-row-refused : (row : Row) → Allows row (row .right) → differ (numbersIn (row .claimed)) (numbersIn (row .right)) ≡ true → RightAlone row
-row-refused row right h = (right, denied)
-  where
-    denied : Allows row (row .claimed) → ⊥
-    denied claimed =
-        let (answer, (turns, links)) = search-determined _ _ _ _ _ _ _ _ _ _ claimed right in
-        not-equal (numbersIn (row .claimed)) (numbersIn (row .right)) h (λ i. numbersOf (answer i) (turns i) (links i))
+one-outcome : (row : Row) (one other : Outcome) → Allows row one → Allows row other → numbersIn one ≡ numbersIn other
+one-outcome row one other a b =
+    let (answer, (turns, links)) = search-determined _ _ _ _ _ _ _ _ _ _ a b in
+    λ i. numbersOf (answer i) (turns i) (links i)
 
-book-a-refused : (claimed : Outcome) → differ (numbersIn claimed) (numbersIn (leaving Done given)) ≡ true → RightAlone (ofBookA claimed)
-book-a-refused claimed h = row-refused (ofBookA claimed) (book-a-right claimed) h
+row-refused : (row : Row) → Allows row (row .right) → differ (numbersIn (row .claimed)) (numbersIn (row .right)) ≡ true → Refused row
+row-refused row = right-alone (Allows row) numbersIn (one-outcome row) (row .right) (row .claimed)
 
-too-long-refused : (claimed : Outcome) → differ (numbersIn claimed) (numbersIn (leaving (Refused (refusal 12 0)) tooLong)) ≡ true → RightAlone (ofTooLong claimed)
-too-long-refused claimed h = row-refused (ofTooLong claimed) (too-long-right claimed) h
+book-a-refused : (claimed : Outcome) → differ (numbersIn claimed) (numbersIn (leaving Done given)) ≡ true → Refused (ofBookA claimed)
+book-a-refused claimed = row-refused (ofBookA claimed) (book-a-right claimed)
+
+turn-too-many-refused : (claimed : Outcome) → differ (numbersIn claimed) (numbersIn (withTurnTooMany claimed .right)) ≡ true → Refused (withTurnTooMany claimed)
+turn-too-many-refused claimed = row-refused (withTurnTooMany claimed) (turn-too-many-right claimed)
 
 -- none of the wrong outcomes is allowed, and the right one is
-pub searches-refused : (anything : Labelled) → All RightAlone (wrongSearches anything)
+pub searches-refused : (anything : Labelled) → All Refused (wrongSearches anything)
 searches-refused anything =
-    let refused-always = book-a-refused (leaving (Refused (refusal 10 0)) unlabelled) refl in
+    let refused-always = book-a-refused (leaving (SearchRefused (refusal 10 0)) unlabelled) refl in
     let said-only = book-a-refused (leaving Done unlabelled) refl in
     let first-passed-over = book-a-refused (leaving Done withoutTheFirst) refl in
-    let measured-by-links = too-long-refused (leaving Done anything) refl in
+    let measured-by-links = turn-too-many-refused (leaving Done anything) refl in
     (refused-always, (said-only, (first-passed-over, (measured-by-links, tt))))
 
 -- two turns alike have one key, and no key is less than itself

@@ -11,7 +11,8 @@ use lib.ListN.{length, getD, set, replicate, length-set, length-replicate}
 use borrow.Author.Tests.{lt-ltb, ltb-true, ne-eqb, eqb-true, eqb-false, not-true}
 use Rattle.book.proofs.Limits.{both}
 use Rattle.walk.specs.View.{View}
-use Rattle.walk.specs.Walks.{between, allowed, seconds, linkCost}
+use Rattle.walk.specs.Walks.{between, allowed, seconds}
+use Rattle.walk.specs.steps.Costs.{turnCost}
 use Rattle.walk.specs.Labels.{Key, Less, Entry, Table, entryAt, startBack, noEntry, TrueTurn, TrueTable}
 use Rattle.walk.specs.steps.Net.{Back, start, via, rank, Entry as Reached, reached}
 use Rattle.walk.specs.steps.Sweep.{when, based, kept, offer}
@@ -29,7 +30,7 @@ use Rattle.walk.proofs.LabelLaws.{reading-figures, reading-none, turn-outside}
 use Rattle.search.specs.steps.Tables.{goesAhead, tableUpTo, Sized}
 use Rattle.search.specs.steps.Starts.{startEntry}
 use Rattle.search.specs.steps.Picking.{isSettled, isCandidate, LeastOf}
-use Rattle.search.specs.steps.Passing.{StepFits, better, offeredIf, passedTo}
+use Rattle.search.specs.steps.Passing.{StepFits, better, offeredIf, onwardTo, passedTo}
 use Rattle.search.specs.steps.Marks.{settledCount}
 use Rattle.search.proofs.LabelOrder.{test-holds, test-fails}
 use Rattle.search.proofs.TableLaws.{up-to-sized, up-to-entry}
@@ -103,13 +104,13 @@ pub record Underway (U : View) (r : ℕ) (table : Table) (marks : List ℕ) : Ty
 module _ (U : View) (limited : Limited U) (good : GoodView U) (few : U .turns < startBack) (r : ℕ) where
   -- what a settled turn's label becomes one step on
   abbrev onward : ℕ → ℕ → Entry → Entry
-  onward u t e = record { cost = e .cost + (seconds (between U u t) + U .walk t + linkCost U (U .second t)); links = suc (e .links); back = u }
+  onward u t e = onwardTo U u (e .cost) (e .links) t
 
-  pub step-most : (u t : ℕ) → u < U .turns → t < U .turns → mayFollow U u t ≡ true → seconds (between U u t) + U .walk t + linkCost U (U .second t) ≤ 46800
+  pub step-most : (u t : ℕ) → u < U .turns → t < U .turns → mayFollow U u t ≡ true → seconds (between U u t) + turnCost U t ≤ 46800
   step-most u t hu ht f =
       let (j, rest) = both (eqb (U .second u) (U .first t)) (isOpen U t && allowed (between U u t)) f in
       let (o, a) = both (isOpen U t) (allowed (between U u t)) rest in
-      omega (arith, limited .link (U .second t) (good .second t ht), limited .walk t ht o, limited .extra u t hu ht a)
+      omega (arith, limited .turn t ht o, limited .extra u t hu ht a)
 
   module _ (u : ℕ) (from : Entry) (done : ℕ) (hu : u < U .turns) (few-done : done < 4096) (two : 2 ≤ from .links) (links-most : from .links ≤ done + 2) (cost-most : from .cost ≤ 82800 + 46800 * done) where
     -- passing the label on is the theory's step, entry by entry
@@ -188,7 +189,7 @@ module _ (U : View) (limited : Limited U) (good : GoodView U) (few : U .turns < 
       by : (test : Bool) → net U r .begins t ≡ test → Fine 0 (figures (based (when test (some (net U r .begin t)))))
       by true e =
           let (o, l) = both (isOpen U t) (eqb (U .from (U .first t)) r) e in
-          labelled (omega arith) (omega arith) (omega (arith, limited .link (U .first t) (good .first t h), limited .link (U .second t) (good .second t h), limited .walk t h o)) (inl (refl, refl))
+          labelled (omega arith) (omega arith) (omega (arith, limited .link (U .first t) (good .first t h), limited .turn t h o)) (inl (refl, refl))
       by false e = none-yet refl
 
   pub begun : Underway U r (tableUpTo (U .turns) (startEntry U r)) (replicate (U .turns) 0)

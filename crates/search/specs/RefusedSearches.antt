@@ -1,13 +1,12 @@
 -- Document 01, "How far the contracts go": what a wrong search from 0 would answer and leave.
-use Prim.Native.Nat.{ℕ}
 use mathlib.Core.List.{List, [], _∷_}
 use Rattle.book.specs.Check.{refusal}
 use Rattle.walk.specs.Labels.{Entry, noEntry, startBack}
 use Rattle.walk.specs.Cases.{entry}
 use Rattle.walk.specs.RefusedSheets.{diamond}
-use Rattle.walk.specs.Labelled.{Labelled, asTable, given}
+use Rattle.walk.specs.Labelled.{Labelled, asTable, given, RightAlone}
 use Rattle.search.specs.declared.Searched.{Searched}
-use Rattle.search.specs.declared.Searched.the-variants.{Done, Refused}
+use Rattle.search.specs.declared.Searched.the-variants.{Done, Refused as SearchRefused}
 use Rattle.search.specs.Search.{Search}
 use Rattle.search.specs.declared.Picked.{Picked}
 use Rattle.search.specs.declared.Picked.the-variants.{Turn}
@@ -28,7 +27,7 @@ pub record Row : Type 0 where
 abbrev pub leaving : Searched → Labelled → Outcome
 leaving answer after = record { answer = answer; turns = after .turns; links = after .links }
 
--- a label buffer for five that holds nothing yet
+-- label buffers for five that hold entries without a walk
 abbrev pub fiveUnreached : List Entry
 fiveUnreached = noEntry ∷ noEntry ∷ noEntry ∷ noEntry ∷ noEntry ∷ []
 
@@ -45,35 +44,34 @@ withoutTheFirst =
       links = entry 40 1 startBack ∷ entry 90 2 0 ∷ entry 442 2 4 ∷ noEntry ∷ entry 403 1 startBack ∷ [];
     }
 
--- a book of four turns and five links
-abbrev pub tooLong : Labelled
-tooLong = record { book = diamond; turns = fiveUnreached; links = fiveUnreached }
+-- a book of four turns and five links, and buffers for five of each
+abbrev pub turnTooMany : Labelled
+turnTooMany = record { book = diamond; turns = fiveUnreached; links = fiveUnreached }
 
 abbrev pub ofBookA : Outcome → Row
 ofBookA claimed = record { lent = unlabelled; right = leaving Done given; claimed = claimed }
 
-abbrev pub ofTooLong : Outcome → Row
-ofTooLong claimed = record { lent = tooLong; right = leaving (Refused (refusal 12 0)) tooLong; claimed = claimed }
+abbrev pub withTurnTooMany : Outcome → Row
+withTurnTooMany claimed = record { lent = turnTooMany; right = leaving (SearchRefused (refusal 12 0)) turnTooMany; claimed = claimed }
 
 abbrev pub wrongSearches : Labelled → List Row
 wrongSearches anything =
     -- one that always refuses
-    ofBookA (leaving (Refused (refusal 10 0)) unlabelled)
+    ofBookA (leaving (SearchRefused (refusal 10 0)) unlabelled)
     -- one that only says that it is done
     ∷ ofBookA (leaving Done unlabelled)
     -- one that never settles turn 0
     ∷ ofBookA (leaving Done withoutTheFirst)
     -- one that measures the turns' buffers by the book's count of links
-    ∷ ofTooLong (leaving Done anything)
+    ∷ withTurnTooMany (leaving Done anything)
     ∷ []
 
 -- the contract allows an outcome of the row's search
 abbrev pub Allows : Row → Outcome → Type 0
 Allows row outcome = Search (row .lent .book) 0 (asTable (row .lent .turns)) (asTable (row .lent .links)) (outcome .answer) (asTable (outcome .turns)) (asTable (outcome .links))
 
--- it allows what is right and not what is claimed
-abbrev pub RightAlone : Row → Type 0
-RightAlone row = Allows row (row .right) × (Allows row (row .claimed) → ⊥)
+abbrev pub Refused : Row → Type 0
+Refused row = RightAlone (Allows row) (row .right) (row .claimed)
 
 -- which turn is settled next where two are alike in cost and links
 abbrev pub OfAlike : Picked → Type 0

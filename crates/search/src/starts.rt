@@ -10,8 +10,8 @@ use book::TurnNumber;
 use walk::START_BACK;
 use walk::link_cost;
 use walk::link_from;
+use walk::turn_cost;
 use walk::turn_first;
-use walk::turn_second;
 ghost use mathlib.Core.Path.{_≡_};
 ghost use Prim.Native.Nat.{_<_};
 ghost use lib.ListN.{length};
@@ -43,9 +43,8 @@ pub fn start_of(
     if from.0 != origin.0 {
         return NO_WALK;
     }
-    let second = turn_second(book, counts, turn);
     Label {
-        cost: link_cost(book, counts, first) + (walk as u32 + link_cost(book, counts, second)),
+        cost: link_cost(book, counts, first) + turn_cost(book, counts, walks, turn),
         links: 2,
         back: START_BACK,
     }

@@ -17,3 +17,4 @@ pub mod LongestText
 pub mod FareDetermined
 pub mod FareOverLong
 pub mod BookAFare
+pub mod LinesRefused

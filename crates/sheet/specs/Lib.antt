@@ -1,4 +1,5 @@
 pub mod Line
 pub mod Sheet
 pub mod FareSheet
+pub mod RefusedLines
 pub mod steps

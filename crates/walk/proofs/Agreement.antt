@@ -6,7 +6,8 @@ use mathlib.Core.List.{List, reverse, reverse-reverse}
 use mathlib.Core.Bool.{_&&_}
 use lib.Dec.{T, eqb}
 use Rattle.walk.specs.View.{View}
-use Rattle.walk.specs.Walks.{between, allowed, seconds, linkCost}
+use Rattle.walk.specs.Walks.{between, allowed, seconds, half, linkWait, boarding, paidIf, turnWait}
+use Rattle.walk.specs.steps.Costs.{linkCost, turnCost}
 use Rattle.walk.specs.Labels.{Key, Less, keyOf, Better, Chosen, Route, Entry, startBack, TrueTurn, TrueLink}
 use Rattle.walk.specs.steps.Net.{Walks, Back}
 use Rattle.walk.specs.steps.ViewNet.{net, key, isOpen, mayFollow}
@@ -25,6 +26,7 @@ pub record Agree (U other : View) : Type 0 where
   pub from : (l : ℕ) → l < U .links → U .from l ≡ other .from l
   pub to : (l : ℕ) → l < U .links → U .to l ≡ other .to l
   pub ride : (l : ℕ) → l < U .links → U .ride l ≡ other .ride l
+  pub line : (l : ℕ) → l < U .links → U .line l ≡ other .line l
   pub headway : (l : ℕ) → l < U .links → U .headway (U .line l) ≡ other .headway (other .line l)
   pub first : (t : ℕ) → t < U .turns → U .first t ≡ other .first t
   pub second : (t : ℕ) → t < U .turns → U .second t ≡ other .second t
@@ -42,6 +44,7 @@ module _ (U other : View) (good : GoodView U) (agree : Agree U other) where
         from = λ l h. sym (agree .from l (rw (agree .links) h));
         to = λ l h. sym (agree .to l (rw (agree .links) h));
         ride = λ l h. sym (agree .ride l (rw (agree .links) h));
+        line = λ l h. sym (agree .line l (rw (agree .links) h));
         headway = λ l h. sym (agree .headway l (rw (agree .links) h));
         first = λ t h. sym (agree .first t (rw (agree .turns) h));
         second = λ t h. sym (agree .second t (rw (agree .turns) h));
@@ -59,14 +62,26 @@ module _ (U other : View) (good : GoodView U) (agree : Agree U other) where
   open-same : (t : ℕ) → t < U .turns → isOpen U t ≡ isOpen other t
   open-same t h = rw (agree .walk t h)
 
-  first-cost : (t : ℕ) → t < U .turns → linkCost U (U .first t) ≡ linkCost other (other .first t)
-  first-cost t h = link-cost (U .first t) (good .first t h) ∙ ap (linkCost other) (agree .first t h)
+  -- a figure of a turn's first link, or of its second
+  of-first : (f g : ℕ → ℕ) → ((l : ℕ) → l < U .links → f l ≡ g l) → (t : ℕ) → t < U .turns → f (U .first t) ≡ g (other .first t)
+  of-first f g same t h = same (U .first t) (good .first t h) ∙ ap g (agree .first t h)
 
-  second-cost : (t : ℕ) → t < U .turns → linkCost U (U .second t) ≡ linkCost other (other .second t)
-  second-cost t h = link-cost (U .second t) (good .second t h) ∙ ap (linkCost other) (agree .second t h)
+  of-second : (f g : ℕ → ℕ) → ((l : ℕ) → l < U .links → f l ≡ g l) → (t : ℕ) → t < U .turns → f (U .second t) ≡ g (other .second t)
+  of-second f g same t h = same (U .second t) (good .second t h) ∙ ap g (agree .second t h)
+
+  wait-same : (t : ℕ) → t < U .turns → turnWait U t ≡ turnWait other t
+  wait-same t h =
+      let before = of-first (U .line) (other .line) (agree .line) t h in
+      let next = of-second (U .line) (other .line) (agree .line) t h in
+      let wait = of-second (linkWait U) (linkWait other) (λ l m. ap half (agree .headway l m)) t h in
+      λ i. paidIf (boarding (agree .walk t h i) (before i) (next i)) (wait i)
+
+  turn-cost : (t : ℕ) → t < U .turns → turnCost U t ≡ turnCost other t
+  unfolding turnCost
+  turn-cost t h = ap₂ _+_ (agree .walk t h) (ap₂ _+_ (of-second (U .ride) (other .ride) (agree .ride) t h) (wait-same t h))
 
   from-same : (t : ℕ) → t < U .turns → U .from (U .first t) ≡ other .from (other .first t)
-  from-same t h = agree .from (U .first t) (good .first t h) ∙ ap (other .from) (agree .first t h)
+  from-same = of-first (U .from) (other .from) (agree .from)
 
   begins-same : (r t : ℕ) → t < U .turns → (isOpen U t && eqb (U .from (U .first t)) r) ≡ (isOpen other t && eqb (other .from (other .first t)) r)
   begins-same r t h = ap₂ _&&_ (open-same t h) (ap (λ (n : ℕ). eqb n r) (from-same t h))
@@ -74,8 +89,8 @@ module _ (U other : View) (good : GoodView U) (agree : Agree U other) where
   follows-same : (p t : ℕ) → p < U .turns → t < U .turns → mayFollow U p t ≡ mayFollow other p t
   follows-same p t hp ht = ap₂ _&&_ (ap₂ eqb (agree .second p hp) (agree .first t ht)) (ap₂ _&&_ (open-same t ht) (ap allowed (between-same p t hp ht)))
 
-  step-same : (p t : ℕ) → p < U .turns → t < U .turns → seconds (between U p t) + U .walk t + linkCost U (U .second t) ≡ seconds (between other p t) + other .walk t + linkCost other (other .second t)
-  step-same p t hp ht = ap₂ _+_ (ap₂ _+_ (ap seconds (between-same p t hp ht)) (agree .walk t ht)) (second-cost t ht)
+  step-same : (p t : ℕ) → p < U .turns → t < U .turns → seconds (between U p t) + turnCost U t ≡ seconds (between other p t) + turnCost other t
+  step-same p t hp ht = ap₂ _+_ (ap seconds (between-same p t hp ht)) (turn-cost t ht)
 
   pub within : (r : ℕ) → Within Key (net U r) (net other r)
   within r =
@@ -85,7 +100,7 @@ module _ (U other : View) (good : GoodView U) (agree : Agree U other) where
         first-same = agree .first;
         second-same = agree .second;
         leaves-in = λ l h s. (subst T (ap (λ (n : ℕ). eqb n r) (agree .from l h)) s, ap (λ (n : ℕ). key n 1) (link-cost l h));
-        begins-in = λ t h s. (subst T (begins-same r t h) s, ap (λ (n : ℕ). key n 2) (ap₂ _+_ (first-cost t h) (ap₂ _+_ (agree .walk t h) (second-cost t h))));
+        begins-in = λ t h s. (subst T (begins-same r t h) s, ap (λ (n : ℕ). key n 2) (ap₂ _+_ (of-first (linkCost U) (linkCost other) link-cost t h) (turn-cost t h)));
         follows-in = λ p t {q} {k} {b} w h f.
             let hp = below Key (net U r) w in
             (subst T (follows-same p t hp h) f, ap (λ (n : ℕ). key (k .cost + n) (suc (k .links))) (step-same p t hp h));

@@ -6,8 +6,8 @@ use Rattle.walk.specs.View.{View}
 use lib.Dec.{ltb, eqb}
 use mathlib.Core.Bool.{Bool, not}
 use Rattle.book.specs.Entries.{barred}
-use Rattle.walk.specs.Walks.{twos, all, sum, turnOf, turnsOf, between, allowed, seconds, half, leaves, permitted, costOf}
-use Rattle.walk.specs.steps.Backwards.{turnsBack, leavesBack, permittedBack, costBack}
+use Rattle.walk.specs.Walks.{twos, all, sum, turnOf, turnsOf, between, allowed, seconds, turnWait, firstWait, leaves, permitted, costOf}
+use Rattle.walk.specs.steps.Backwards.{turnsBack, leavesBack, firstWaitBack, permittedBack, costBack}
 use Rattle.walk.proofs.Lists.{sum-reverse, all-reverse, map-reverse, twos-reverse}
 
 module _ (U : View) where
@@ -26,6 +26,19 @@ module _ (U : View) where
       ∙ leaves-snoc r (reverse rest) a b
       ∙ ap (leaves U r) (sym (reverse-cons a rest))
       ∙ leaves-reverse r (a ∷ rest)
+
+  first-wait-snoc : (links : List ℕ) (a b : ℕ) → firstWait U ((links ++ (a ∷ [])) ++ (b ∷ [])) ≡ firstWait U (links ++ (a ∷ []))
+  first-wait-snoc [] a b = refl
+  first-wait-snoc (c ∷ rest) a b = refl
+
+  first-wait-reverse : (links : List ℕ) → firstWait U (reverse links) ≡ firstWaitBack U links
+  first-wait-reverse [] = refl
+  first-wait-reverse (l ∷ []) = refl
+  first-wait-reverse (b ∷ a ∷ rest) =
+      ap (firstWait U) (reverse-cons b (a ∷ rest) ∙ ap (λ (l : List ℕ). l ++ (b ∷ [])) (reverse-cons a rest))
+      ∙ first-wait-snoc (reverse rest) a b
+      ∙ ap (firstWait U) (sym (reverse-cons a rest))
+      ∙ first-wait-reverse (a ∷ rest)
 
   -- a test of each, and of each two successive ones, of a reversed list
   all-map-reverse : {A : Type 0} (f : A → Bool) (list : List A) → all (map f (reverse list)) ≡ all (map f list)
@@ -59,7 +72,8 @@ module _ (U : View) where
       rw (
         turns-reverse links,
         sum-map-reverse (U .ride) links,
-        sum-map-reverse (λ l. half (U .headway (U .line l))) links,
+        first-wait-reverse links,
+        sum-map-reverse (turnWait U) (turnsBack U links),
         sum-map-reverse (U .walk) (turnsBack U links),
         sum-twos-reverse (λ p t. seconds (between U p t)) (turnsBack U links),
       )

@@ -2,11 +2,14 @@
 use Prim.Native.Nat.{ℕ, zero, suc, _<_}
 use mathlib.Core.Path.{_≡_, refl, sym, ap, ap₂, _∙_, subst}
 use mathlib.Core.List.{List, [], _∷_, reverse}
-use mathlib.Core.Bool.{Bool, true, false, _&&_}
+use mathlib.Core.Bool.{Bool, true, false, not, _&&_}
 use native.Mathlib.Omega.{arith}
 use lib.Dec.{eqb}
 use lib.ListN.{length, getD}
-use borrow.Author.Tests.{eqb-true, eq-eqb}
+use borrow.Author.Tests.{eqb-true, eq-eqb, not-true}
+use Rattle.book.specs.declared.Counts.{Counts}
+use Rattle.book.specs.declared.Checked.{Checked}
+use Rattle.book.specs.declared.Checked.the-variants.{Good, Refused as BookRefused}
 use Rattle.book.proofs.Limits.{both}
 use Rattle.walk.specs.View.{View, upTo}
 use Rattle.walk.specs.Labels.{Key, Entry, keyOf, noEntry, TrueTurn, TrueLink, NodeWalk}
@@ -78,27 +81,70 @@ same-entries (e ∷ rest) (f ∷ others) h =
     let (here, later) = both (sameEntry e f) (sameEntries rest others) h in
     ap₂ _∷_ (same-entry e f here) (same-entries rest others later)
 
-abbrev pub sameLinks : List ℕ → List ℕ → Bool
-sameLinks [] [] = true
-sameLinks [] (b ∷ others) = false
-sameLinks (a ∷ rest) [] = false
-sameLinks (a ∷ rest) (b ∷ others) = eqb a b && sameLinks rest others
+abbrev sameNumbers : List ℕ → List ℕ → Bool
+sameNumbers [] [] = true
+sameNumbers [] (b ∷ others) = false
+sameNumbers (a ∷ rest) [] = false
+sameNumbers (a ∷ rest) (b ∷ others) = eqb a b && sameNumbers rest others
 
-same-links : (one other : List ℕ) → sameLinks one other ≡ true → one ≡ other
-same-links [] [] h = refl
-same-links [] (b ∷ others) h = clash (cc)
-same-links (a ∷ rest) [] h = clash (cc)
-same-links (a ∷ rest) (b ∷ others) h =
-    let (here, later) = both (eqb a b) (sameLinks rest others) h in
-    ap₂ _∷_ (eqb-true a b here) (same-links rest others later)
+same-numbers : (one other : List ℕ) → sameNumbers one other ≡ true → one ≡ other
+same-numbers [] [] h = refl
+same-numbers [] (b ∷ others) h = clash (cc)
+same-numbers (a ∷ rest) [] h = clash (cc)
+same-numbers (a ∷ rest) (b ∷ others) h =
+    let (here, later) = both (eqb a b) (sameNumbers rest others) h in
+    ap₂ _∷_ (eqb-true a b here) (same-numbers rest others later)
 
-pub links-same : (links : List ℕ) → sameLinks links links ≡ true
-links-same [] = refl
-links-same (a ∷ rest) = rw (eq-eqb a a refl, links-same rest)
+numbers-same : (numbers : List ℕ) → sameNumbers numbers numbers ≡ true
+numbers-same [] = refl
+numbers-same (a ∷ rest) = rw (eq-eqb a a refl, numbers-same rest)
 
 pub entry-same : (e : Entry) → sameEntry e e ≡ true
 unfolding sameEntry
 entry-same e = rw (eq-eqb (e .cost) (e .cost) refl, eq-eqb (e .links) (e .links) refl, eq-eqb (e .back) (e .back) refl)
+
+abbrev sameCounts : Counts → Counts → Bool
+sameCounts a b = eqb (a .nodes) (b .nodes) && (eqb (a .lines) (b .lines) && (eqb (a .links) (b .links) && (eqb (a .turns) (b .turns) && (eqb (a .pairs) (b .pairs) && eqb (a .«carry_over») (b .«carry_over»)))))
+
+-- the answer is Good with these counts
+abbrev pub goodWith : Checked → Counts → Bool
+goodWith (BookRefused found) counts = false
+goodWith (Good found) counts = sameCounts found counts
+
+same-counts : (a b : Counts) → sameCounts a b ≡ true → a ≡ b
+same-counts a b h =
+    let (nodes, rest) = both _ _ h in
+    let (lines, rest) = both _ _ rest in
+    let (links, rest) = both _ _ rest in
+    let (turns, rest) = both _ _ rest in
+    let (pairs, carry) = both _ _ rest in
+    λ i.
+    record {
+      nodes = eqb-true (a .nodes) (b .nodes) nodes i;
+      lines = eqb-true (a .lines) (b .lines) lines i;
+      links = eqb-true (a .links) (b .links) links i;
+      turns = eqb-true (a .turns) (b .turns) turns i;
+      pairs = eqb-true (a .pairs) (b .pairs) pairs i;
+      «carry_over» = eqb-true (a .«carry_over») (b .«carry_over») carry i;
+    }
+
+pub good-with : (answer : Checked) (counts : Counts) → goodWith answer counts ≡ true → answer ≡ Good counts
+good-with (BookRefused found) counts h = clash (cc)
+good-with (Good found) counts h = ap Good (same-counts found counts h)
+
+-- what a test tells apart, if everything passes it with itself
+pub told-apart : {A : Type 0} (same : A → A → Bool) → ((a : A) → same a a ≡ true) → (one other : A) → not (same one other) ≡ true → one ≡ other → ⊥
+told-apart same self one other h e =
+    let yes-same : same one other ≡ true = ap (same one) (sym e) ∙ self one in
+    let not-same : same one other ≡ false = not-true _ h in
+    clash (cc)
+
+-- some number is another
+abbrev pub differ : List ℕ → List ℕ → Bool
+differ numbers others = not (sameNumbers numbers others)
+
+pub not-equal : (numbers others : List ℕ) → differ numbers others ≡ true → numbers ≡ others → ⊥
+not-equal = told-apart sameNumbers numbers-same
 
 -- a test at each number below n
 abbrev below-all : ℕ → (ℕ → Bool) → Bool
@@ -176,7 +222,7 @@ module _ (U : View) (good : GoodView U) (h : settled U ≡ true) where
 unfoldable pub passes : View → View → Claim → Bool
 passes U changed (turnsAre rows) = sameEntries (upTo (changed .turns) (λ t. figures (turnAt changed t))) rows
 passes U changed (linksAre rows) = sameEntries (upTo (changed .links) (λ l. figures (linkAt changed l))) rows
-passes U changed (routeIs s cost links) = routeCost (routeAt changed s) cost && sameLinks (routeLinks changed (routeAt changed s)) links
+passes U changed (routeIs s cost links) = routeCost (routeAt changed s) cost && sameNumbers (routeLinks changed (routeAt changed s)) links
 passes U changed (routeCosts s cost) = routeCost (routeAt changed s) cost
 passes U changed (noRoute s) = isOut (routeAt changed s)
 passes U changed (countsAre turns links) =
@@ -201,8 +247,8 @@ module _ (U changed : View) (good : GoodView U) (good′ : GoodView changed) (h 
   claim-holds (turnsAre rows) p = table-is (changed .turns) (TrueTurn changed 0) (λ t. figures (turnAt changed t)) rows (true-turn changed good′ h′) p
   claim-holds (linksAre rows) p = table-is (changed .links) (TrueLink changed 0) (λ l. figures (linkAt changed l)) rows (true-link changed good′ h′) p
   claim-holds (routeIs s cost links) p =
-      let (c, l) = both (routeCost (routeAt changed s) cost) (sameLinks (routeLinks changed (routeAt changed s)) links) p in
-      subst (RouteIs changed s cost) (same-links _ _ l) (route-is changed good′ h′ s cost (routeAt changed s) (route-inside changed good′ h′ s) c)
+      let (c, l) = both (routeCost (routeAt changed s) cost) (sameNumbers (routeLinks changed (routeAt changed s)) links) p in
+      subst (RouteIs changed s cost) (same-numbers _ _ l) (route-is changed good′ h′ s cost (routeAt changed s) (route-inside changed good′ h′ s) c)
   claim-holds (routeCosts s cost) p = (routeLinks changed (routeAt changed s), route-is changed good′ h′ s cost (routeAt changed s) (route-inside changed good′ h′ s) p)
   claim-holds (noRoute s) p = no-route changed good′ h′ s (routeAt changed s) (route-inside changed good′ h′ s) p
   claim-holds (countsAre turns links) p =

@@ -8,7 +8,8 @@ use lib.Dec.{eqb}
 use lib.ListN.{length, getD, length-append}
 use Rattle.book.proofs.Limits.{both}
 use Rattle.walk.specs.View.{View}
-use Rattle.walk.specs.Walks.{turnOf, turnsOf, between, allowed, seconds, linkCost, costOf}
+use Rattle.walk.specs.Walks.{turnOf, turnsOf, between, allowed, seconds, costOf}
+use Rattle.walk.specs.steps.Costs.{linkCost, turnCost}
 use Rattle.walk.specs.Labels.{Key, keyOf, Chosen, TurnWalk, LinkWalk, Route, turnBack, startBack}
 use Rattle.walk.specs.steps.Backwards.{turnsBack}
 use Rattle.walk.specs.steps.Net as net-walks
@@ -34,7 +35,7 @@ NoneTwice list = (i j : ℕ) → i < j → j < length list → getD list i 0 ≡
 -- the figures of a view within document 01's limits
 pub record Limited (U : View) : Type 0 where
   pub link : (l : ℕ) → l < U .links → linkCost U l ≤ 39600
-  pub walk : (t : ℕ) → t < U .turns → isOpen U t ≡ true → U .walk t ≤ 3600
+  pub turn : (t : ℕ) → t < U .turns → isOpen U t ≡ true → turnCost U t ≤ 43200
   pub extra : (p t : ℕ) → p < U .turns → t < U .turns → allowed (between U p t) ≡ true → seconds (between U p t) ≤ 3600
   pub turns : U .turns ≤ 4096
 
@@ -109,11 +110,11 @@ module _ (U : View) (good : GoodView U) (r : ℕ) where
     cost-most : {t : ℕ} {q : List ℕ} {k : Key} {b : Back} → Walk Key (net U r) t q k b → k .cost + 10800 ≤ 46800 * k .links
     cost-most (two t h s) =
         let (o, leave) = both (isOpen U t) (eqb (U .from (U .first t)) r) (holds _ s) in
-        omega (arith, limited .link (U .first t) (good .first t h), limited .link (U .second t) (good .second t h), limited .walk t h o)
+        omega (arith, limited .link (U .first t) (good .first t h), limited .turn t h o)
     cost-most (more p t w h f) =
         let (j, rest) = both (eqb (U .second p) (U .first t)) (isOpen U t && allowed (between U p t)) (holds _ f) in
         let (o, a) = both (isOpen U t) (allowed (between U p t)) rest in
-        omega (arith, cost-most w, limited .link (U .second t) (good .second t h), limited .walk t h o, limited .extra p t (built U good r w .within) h a)
+        omega (arith, cost-most w, limited .turn t h o, limited .extra p t (built U good r w .within) h a)
 
     -- the bounds of a chosen walk of the net, to a turn and to a link
     turn-bounds : {t : ℕ} {q : List ℕ} {k : Key} {b : Back} → net-walks.Chosen Key (net U r) (Walk Key (net U r) t) q k b → (k .links ≤ 4097) × (k .cost ≤ 191728800)

@@ -16,12 +16,14 @@ use Rattle.walk.specs.declared.Costed.the-variants.{NotPermitted, Permit
 use Rattle.walk.specs.declared.onward.Advanced.{Advanced}
 use Rattle.walk.specs.declared.onward.Advanced.the-variants.{Stopped, Onward}
 use Rattle.walk.specs.View.{View, viewWith, viewOf, walksOf}
-use Rattle.walk.specs.Walks.{turnOf, permitted, costOf, linkCost}
+use Rattle.walk.specs.Walks.{turnOf, permitted, costOf}
+use Rattle.walk.specs.steps.Costs.{linkCost}
 use Rattle.walk.specs.Labels.{startBack}
 use Rattle.walk.specs.steps.Backwards.{turnsBack, permittedBack, costBack, stepPermitted, stepCost}
 use Rattle.walk.specs.steps.Onward.{turnBefore, advanced, oneMore, walkAnswer}
 use Rattle.walk.proofs.theory.Laws.{refuted}
 use Rattle.walk.proofs.Backwards.{permitted-reverse, cost-reverse}
+use Rattle.walk.proofs.GoodView.{turn-links}
 use Rattle.walk.proofs.Growth.{and-true, permitted-more, cost-more, permitted-one, cost-one, step-tests}
 use Rattle.walk.proofs.ChosenLaws.{Limited}
 use Rattle.walk.proofs.LimitedView.{limited-view}
@@ -176,7 +178,7 @@ module _ (book : List ℕ) (counts : Counts) (walks : List ℕ) (checked : check
               earlier = last ∷ along .earlier;
               so-far = grown;
               goes = permitted-more U r b last (along .earlier) ∙ and-true (along .goes) step;
-              costs = omega (arith, along .costs, added, cost-more U r b last (along .earlier));
+              costs = omega (arith, along .costs, added, cost-more U r b last (along .earlier) (turn-links U last b listed .1));
               turn = as-list turn within ∙ ap (λ (t : ℕ). t ∷ []) which;
               listed = λ n. within;
               limit = omega (arith, along .limit);

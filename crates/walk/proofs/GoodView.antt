@@ -1,10 +1,11 @@
 -- What the theory needs of a view: its turns ascend, and their links exist and meet.
-use Prim.Native.Nat.{ℕ, _≤_, _<_}
+use Prim.Native.Nat.{ℕ, _+_, _≤_, _<_}
 use mathlib.Core.Path.{_≡_, refl, sym}
 use mathlib.Core.Bool.{Bool, true, false, not, _&&_}
 use native.Mathlib.Omega.{arith}
 use native.Mathlib.Decide.{decLt}
 use lib.Dec.{eqb}
+use lib.ListN.{getD}
 use borrow.Author.Tests.{eq-eqb, eqb-true, not-false, not-true}
 use Rattle.book.proofs.FirstBad.{First, first-bad}
 use Rattle.book.proofs.Limits.{both}
@@ -16,7 +17,8 @@ use Rattle.book.specs.Entries.{linkLine}
 use Rattle.book.specs.Check.{checkOf}
 use Rattle.book.proofs.GoodBook.{good-book}
 use Rattle.walk.specs.View.{View, viewWith}
-use Rattle.walk.specs.Walks.{turnOf, linkCost}
+use Rattle.walk.specs.Walks.{turnOf, paidIf, boards, linkWait, turnWait}
+use Rattle.walk.specs.steps.Costs.{linkCost, turnCost}
 
 pub record GoodView (U : View) : Type 0 where
   pub first : (t : ℕ) → t < U .turns → U .first t < U .links
@@ -86,3 +88,20 @@ link-limit book counts walks h l within =
     let g = good-book book counts h in
     let link = g .link l within in
     omega (arith, link .ride, g .headway (linkLine (linkTable book counts) l) (link .line))
+
+paid-most : (test : Bool) (wait : ℕ) → paidIf test wait ≤ wait
+paid-most true wait = omega arith
+paid-most false wait = omega arith
+
+-- and so do the ride and the wait of a turn's second link
+module _ (book : List ℕ) (counts : Counts) (walks : List ℕ) (h : checkOf book ≡ Good counts) (t : ℕ) (within : t < counts .turns) where
+  abbrev U : View
+  U = viewWith book counts walks
+
+  pub ridden-limit : U .ride (U .second t) + turnWait U t ≤ 39600
+  ridden-limit = omega (arith, link-limit book counts walks h _ (good-book book counts h .turn t within .second), paid-most (boards U t) (linkWait U (U .second t)))
+
+  -- with a walk of any number
+  pub turn-limit : turnCost U t ≤ getD walks t 0 + 39600
+  unfolding turnCost
+  turn-limit = omega (arith, ridden-limit)

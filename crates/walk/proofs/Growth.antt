@@ -1,6 +1,6 @@
 -- A walk grows by one link: it stays permitted exactly where the step is, and its cost grows by the step's.
 use Prim.Native.Nat.{ℕ, _+_}
-use mathlib.Core.Path.{_≡_, refl, sym, _∙_}
+use mathlib.Core.Path.{_≡_, refl, sym, ap, _∙_}
 use mathlib.Core.List.{List, [], _∷_, map}
 use mathlib.Core.Bool.{Bool, true, false, not, _&&_}
 use native.Mathlib.Omega.{arith}
@@ -8,7 +8,8 @@ use lib.Dec.{ltb, eqb}
 use Rattle.book.specs.Entries.{barred}
 use Rattle.book.proofs.Limits.{both}
 use Rattle.walk.specs.View.{View}
-use Rattle.walk.specs.Walks.{twos, all, sum, turnOf, between, allowed, seconds, linkCost}
+use Rattle.walk.specs.Walks.{twos, all, sum, turnOf, between, allowed, seconds}
+use Rattle.walk.specs.steps.Costs.{linkCost, turnCost}
 use Rattle.walk.specs.steps.Backwards.{turnsBack, leavesBack, permittedBack, costBack, mayCome, extraAfter, stepPermitted, stepCost}
 
 pub and-true : {a b : Bool} → a ≡ true → b ≡ true → (a && b) ≡ true
@@ -104,9 +105,10 @@ module _ (U : View) (r : ℕ) where
         let (now, step) = both _ _ h in
         tested (b ∷ a ∷ rest) (grown (tests (a ∷ rest) now) (step-tests b a (turnsBack U (a ∷ rest)) step)))
 
-    pub cost-more : costBack U (b ∷ a ∷ rest) ≡ costBack U (a ∷ rest) + stepCost U b a (turnsBack U (a ∷ rest))
-    unfolding costBack stepCost
-    cost-more = omega (arith, extra-more (turnOf U a b) (turnsBack U (a ∷ rest)))
+    -- where the turn's second link is the link itself, as in every turn of the table
+    pub cost-more : U .second (turnOf U a b) ≡ b → costBack U (b ∷ a ∷ rest) ≡ costBack U (a ∷ rest) + stepCost U b a (turnsBack U (a ∷ rest))
+    unfolding costBack stepCost turnCost
+    cost-more second = omega (arith, ap (U .ride) second, extra-more (turnOf U a b) (turnsBack U (a ∷ rest)))
 
   pub permitted-one : (l : ℕ) → permittedBack U r (l ∷ []) ≡ (ltb l (U .links) && eqb (U .from l) r)
   unfolding permittedBack

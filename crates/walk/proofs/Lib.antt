@@ -20,6 +20,7 @@ pub mod GivenWalks
 pub mod Determined
 pub mod Agreement
 pub mod BetterLaws
+pub mod EveryRow
 pub mod CasesHold
 pub mod SheetsRefused
 pub mod LabelledTrue

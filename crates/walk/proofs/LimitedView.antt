@@ -18,7 +18,7 @@ use Rattle.walk.specs.View.{viewOf, viewWith, walksOf, listedIn, foundOr
 use Rattle.walk.specs.Walks.{lookUp, listedAs, carriedIf, between, allowed, seconds}
 use Rattle.walk.specs.steps.ViewNet.{isOpen}
 use Rattle.walk.proofs.theory.Laws.{clash}
-use Rattle.walk.proofs.GoodView.{link-limit}
+use Rattle.walk.proofs.GoodView.{link-limit, turn-limit}
 use Rattle.walk.proofs.Filling.{up-to-at}
 use Rattle.walk.proofs.ChosenLaws.{Limited}
 
@@ -74,7 +74,7 @@ module _ (book : List ℕ) (counts : Counts) (h : checkOf book ≡ Good counts) 
   limited-view =
       record {
         link = link-limit book counts (walksOf book counts) h;
-        walk = walk-limit;
+        turn = λ t l o. omega (arith, walk-limit t l o, turn-limit book counts (walksOf book counts) h t l);
         extra = λ p t _ _ a. extra-limit (walksOf book counts) p t a;
         turns = g .limited .turns;
       }

@@ -9,7 +9,8 @@ use lib.ListN.{length}
 use borrow.Author.Tests.{lt-ltb, ltb-true, eq-eqb, eqb-true}
 use Rattle.book.proofs.Limits.{both}
 use Rattle.walk.specs.View.{View}
-use Rattle.walk.specs.Walks.{turnOf, between, allowed, seconds, linkCost}
+use Rattle.walk.specs.Walks.{turnOf, between, allowed, seconds}
+use Rattle.walk.specs.steps.Costs.{linkCost, turnCost}
 use Rattle.walk.specs.Labels.{Key}
 use Rattle.walk.specs.steps.Backwards.{turnsBack, permittedBack, costBack, mayCome, extraAfter, stepPermitted, stepCost}
 use Rattle.walk.specs.steps.Net.{Back, start, via, Walk, two, more}
@@ -55,21 +56,21 @@ module _ (U : View) (good : GoodView U) (r : ℕ) where
       }
 
   turn-cost : (t a : ℕ) (turns : List ℕ) → t < U .turns → a ≡ U .first t
-      → stepCost U (U .second t) a turns ≡ extraAfter U t turns + U .walk t + linkCost U (U .second t)
+      → stepCost U (U .second t) a turns ≡ extraAfter U t turns + turnCost U t
   unfolding stepCost
   turn-cost t a turns h e =
       let same : turnOf U a (U .second t) ≡ t = ap (λ (l : ℕ). turnOf U l (U .second t)) e ∙ turn-of U good t h in
       rw same
 
   built-two : (t : ℕ) → t < U .turns → (isOpen U t && eqb (U .from (U .first t)) r) ≡ true
-      → Built t (U .second t ∷ U .first t ∷ []) (key (linkCost U (U .first t) + (U .walk t + linkCost U (U .second t))) 2) start
+      → Built t (U .second t ∷ U .first t ∷ []) (key (linkCost U (U .first t) + turnCost U t) 2) start
   built-two t h s =
       let (o, l) = both (isOpen U t) (eqb (U .from (U .first t)) r) s in
       record {
         goes =
             permitted-more U r (U .second t) (U .first t) []
             ∙ and-true (permitted-one U r (U .first t) ∙ and-true (lt-ltb _ _ (good .first t h)) l) (step-tested U r (U .second t) (U .first t) [] (turn-step t (U .first t) [] h refl o refl));
-        cost = cost-more U r (U .second t) (U .first t) [] ∙ omega (arith, cost-one U r (U .first t), turn-cost t (U .first t) [] h refl);
+        cost = cost-more U r (U .second t) (U .first t) [] (ap (U .second) (turn-of U good t h)) ∙ omega (arith, cost-one U r (U .first t), turn-cost t (U .first t) [] h refl);
         count = refl;
         within = h;
         before = [];
@@ -90,7 +91,7 @@ module _ (U : View) (good : GoodView U) (r : ℕ) where
     turns-so-far : turnsBack U (U .second p ∷ U .first p ∷ b .before) ≡ p ∷ b .turns
     turns-so-far = sym (ap (turnsBack U) (b .ends)) ∙ b .last
 
-    built-more : Built t (U .second t ∷ links) (key (k .cost + (seconds (between U p t) + U .walk t + linkCost U (U .second t))) (suc (k .links))) (via p)
+    built-more : Built t (U .second t ∷ links) (key (k .cost + (seconds (between U p t) + turnCost U t)) (suc (k .links))) (via p)
     built-more =
         record {
           goes =
@@ -100,7 +101,7 @@ module _ (U : View) (good : GoodView U) (r : ℕ) where
               (ap (stepPermitted U (U .second t) (U .second p)) turns-so-far ∙ step-tested U r (U .second t) (U .second p) (p ∷ b .turns) (turn-step t (U .second p) (p ∷ b .turns) h joint (may .0) (may .1)));
           cost =
               ap (λ (l : List ℕ). costBack U (U .second t ∷ l)) (b .ends)
-              ∙ cost-more U r (U .second t) (U .second p) (U .first p ∷ b .before)
+              ∙ cost-more U r (U .second t) (U .second p) (U .first p ∷ b .before) (ap (U .second) (ap (λ (l : ℕ). turnOf U l (U .second t)) joint ∙ turn-of U good t h))
               ∙ omega (
                 arith,
                 sym (ap (costBack U) (b .ends)) ∙ b .cost,

@@ -16,7 +16,8 @@ use Rattle.walk.specs.declared.Step.{Step}
 use Rattle.walk.specs.declared.Step.the-variants.{Barred, Seconds}
 use Rattle.walk.specs.declared.onward.Advanced.the-variants.{Stopped, Onward}
 use Rattle.walk.specs.View.{View, viewWith, viewOf, walksOf}
-use Rattle.walk.specs.Walks.{turnOf, allowed, seconds, linkCost}
+use Rattle.walk.specs.Walks.{turnOf, allowed, seconds}
+use Rattle.walk.specs.steps.Costs.{turnCost}
 use Rattle.walk.specs.steps.Backwards.{mayCome, extraAfter, stepPermitted, stepCost}
 use Rattle.walk.specs.steps.Pairs.{openStep, unlessClosed, stepTo}
 use Rattle.walk.specs.steps.Onward.{turnBefore, standsAfter, advanced, oneMore}
@@ -45,7 +46,7 @@ module _ (U : View) where
   extra-comes t [] = refl
   extra-comes t (p ∷ rest) = refl
 
-  pub open-step : (t : ℕ) (closed : Bool) (stands : Between) → unlessClosed closed (openStep U t stands) ≡ stepped (not closed && allowed stands) (seconds stands + U .walk t + linkCost U (U .second t))
+  pub open-step : (t : ℕ) (closed : Bool) (stands : Between) → unlessClosed closed (openStep U t stands) ≡ stepped (not closed && allowed stands) (seconds stands + turnCost U t)
   open-step t true stands = refl
   open-step t false (Listed extra) = refl
   open-step t false Forbidden = refl
@@ -60,7 +61,7 @@ module _ (U : View) where
         let exists : b < U .links = rw second at (good .second (turnOf U a b) h) in
         let meets : U .to a ≡ U .from b = rw (first, second) at (good .meet (turnOf U a b) h) in
         open-step (turnOf U a b) (eqb (U .walk (turnOf U a b)) barred) (standsAfter U (turnOf U a b) turns)
-        ∙ rw (lt-ltb b (U .links) exists, eq-eqb (U .to a) (U .from b) meets, lt-ltb (turnOf U a b) (U .turns) h, may-come (turnOf U a b) turns, extra-comes (turnOf U a b) turns, second)
+        ∙ rw (lt-ltb b (U .links) exists, eq-eqb (U .to a) (U .from b) meets, lt-ltb (turnOf U a b) (U .turns) h, may-come (turnOf U a b) turns, extra-comes (turnOf U a b) turns)
 
     no-turn : U .turns ≤ turnOf U a b → stepPermitted U b a turns ≡ false
     no-turn h = by (stepPermitted U b a turns) refl

@@ -1,4 +1,4 @@
--- One more link costs at most 46,800 seconds: an extra, a walk, and the link's own cost.
+-- One more link costs at most 46,800 seconds: an extra, and what its turn adds.
 use Prim.Native.Nat.{ℕ, _≤_, _<_}
 use mathlib.Core.Path.{_≡_, refl}
 use mathlib.Core.Bool.{Bool, true, false}
@@ -6,7 +6,7 @@ use native.Mathlib.Omega.{arith}
 use lib.Dec.{eqb}
 use borrow.Author.Tests.{ltb-true, eqb-false}
 use Rattle.walk.specs.View.{View}
-use Rattle.walk.specs.Walks.{turnOf, linkCost}
+use Rattle.walk.specs.Walks.{turnOf}
 use Rattle.walk.specs.Labels.{startBack}
 use Rattle.walk.specs.steps.Backwards.{mayCome, extraAfter, stepPermitted, stepCost}
 use Rattle.walk.specs.steps.Onward.{noneOr, turnBefore}
@@ -27,7 +27,4 @@ module _ (U : View) (limited : Limited U) (before : ℕ) (listed : (before ≡ s
   step-limit b a h =
       let s = step-tests U 0 b a (turnBefore before) h in
       let within : turnOf U a b < U .turns = ltb-true _ _ (s .listed) in
-      let walk : U .walk (turnOf U a b) ≤ 3600 = limited .walk (turnOf U a b) within (s .opened) in
-      let extra : extraAfter U (turnOf U a b) (turnBefore before) ≤ 3600 = extra-limit (turnOf U a b) within (s .follow) in
-      let link : linkCost U b ≤ 39600 = limited .link b (ltb-true _ _ (s .exist)) in
-      omega arith
+      omega (arith, limited .turn (turnOf U a b) within (s .opened), extra-limit (turnOf U a b) within (s .follow))

@@ -9,7 +9,8 @@ use lib.ListN.{length, length-reverse}
 use borrow.Author.Tests.{lt-ltb, ltb-true}
 use Rattle.book.proofs.Limits.{both}
 use Rattle.walk.specs.View.{View}
-use Rattle.walk.specs.Walks.{turnOf, linkCost, permitted, costOf}
+use Rattle.walk.specs.Walks.{turnOf, permitted, costOf}
+use Rattle.walk.specs.steps.Costs.{linkCost}
 use Rattle.walk.specs.Labels.{Key, Less, keyOf, Better, Chosen, TurnWalk, LinkWalk, NodeWalk, stays, enters, Entry, startBack, lastOr, linkBack, turnBack, True, chosen, absent}
 use Rattle.walk.specs.steps.Backwards.{turnsBack, permittedBack, costBack}
 use Rattle.walk.specs.steps.Net as net-walks

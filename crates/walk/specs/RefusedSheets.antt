@@ -1,4 +1,4 @@
--- Document 01, "Habits that give a neat wrong sheet": what each habit would give, on book A or on the smallest book that shows it.
+-- Document 01, "Habits that give a neat wrong sheet": what each habit, and each slip beside them, would give, on book A or on the smallest book that shows it.
 use Prim.Native.Nat.{ℕ}
 use mathlib.Core.Path.{_≡_}
 use mathlib.Core.List.{List, [], _∷_, _++_}
@@ -8,8 +8,8 @@ use Rattle.book.specs.Number.{withNumber}
 use Rattle.book.specs.Check.{checkOf}
 use Rattle.book.specs.BookA.{bookA, countsA, written}
 use Rattle.walk.specs.View.{View, viewOf}
-use Rattle.walk.specs.Labels.{Entry, noEntry, TrueTurn, TrueLink, Route}
-use Rattle.walk.specs.Cases.{closed, changedA, entry}
+use Rattle.walk.specs.Labels.{Entry, noEntry, startBack, TrueTurn, TrueLink, Route}
+use Rattle.walk.specs.Cases.{setTo, closed, changedA, entry, longHeadwayA}
 
 pub data Sheet : Type 0 where
   -- a turn's entry, a link's entry
@@ -80,6 +80,16 @@ sheets =
     ∷ ofBook listedAtZero countsA (turnEntry 1 (entry 235 3 0))
     -- ties settled by the first link, not by the last difference
     ∷ ofBook diamond countsOfDiamond (routeTo 4 (0 ∷ 3 ∷ 4 ∷ []))
+    -- a closed turn passed at 65,535 seconds
+    ∷ ofBook (changedA (closed 3 ∷ [])) countsA (turnEntry 3 (entry 65738 4 2))
+    -- half a headway of 5 rounded down
+    ∷ ofBook bookA countsA (linkEntry 4 (entry 402 1 startBack))
+    -- of walks of equal cost, as in P9, the one with more links
+    ∷ ofBook (changedA (setTo 3 104 ∷ [])) countsA (routeTo 3 (0 ∷ 1 ∷ 3 ∷ 1 ∷ 2 ∷ []))
+    -- a wait at every link; none after a walk within a line; none after a change of line without a walk
+    ∷ ofBook longHeadwayA countsA (routeTo 3 (4 ∷ 2 ∷ []))
+    ∷ ofBook longHeadwayA countsA (turnEntry 1 (entry 422 5 3))
+    ∷ ofBook bookA countsA (turnEntry 2 (entry 150 3 0))
     ∷ []
 
 abbrev pub Denied : View → Sheet → Type 0

@@ -1,7 +1,7 @@
 -- Document 01, "Permitted walks and their cost". A walk is its list of link numbers in travel order.
 use Prim.Native.Nat.{ℕ, _+_, _/_}
 use mathlib.Core.List.{List, [], _∷_, map}
-use mathlib.Core.Bool.{Bool, true, false, not, _&&_}
+use mathlib.Core.Bool.{Bool, true, false, not, _&&_, _||_}
 use mathlib.Core.Option.{Option, none, some}
 use lib.Dec.{ltb, eqb}
 use Rattle.book.specs.Entries.{barred}
@@ -80,16 +80,35 @@ permitted U r links =
 abbrev pub half : ℕ → ℕ
 half headway = (headway + 1) / 2
 
--- a link's cost: its ride plus half its line's headway
-abbrev pub linkCost : View → ℕ → ℕ
-linkCost U l = U .ride l + half (U .headway (U .line l))
+-- the wait for a link: half its line's headway
+abbrev pub linkWait : View → ℕ → ℕ
+linkWait U l = half (U .headway (U .line l))
+
+-- document 02, request 1: it is paid for the walk's first link,
+abbrev pub firstWait : View → List ℕ → ℕ
+firstWait U [] = 0
+firstWait U (l ∷ rest) = linkWait U l
+
+-- and where the turn into a link has a walk above 0 or joins two lines
+abbrev pub boarding : ℕ → ℕ → ℕ → Bool
+boarding walk line-before line = ltb 0 walk || not (eqb line-before line)
+
+abbrev pub boards : View → ℕ → Bool
+boards U t = boarding (U .walk t) (U .line (U .first t)) (U .line (U .second t))
+
+abbrev pub paidIf : Bool → ℕ → ℕ
+paidIf true wait = wait
+paidIf false wait = 0
+
+abbrev pub turnWait : View → ℕ → ℕ
+turnWait U t = paidIf (boards U t) (linkWait U (U .second t))
 
 -- the four sums of a walk's cost
 abbrev pub rideOf : View → List ℕ → ℕ
 rideOf U links = sum (map (U .ride) links)
 
 abbrev pub waitOf : View → List ℕ → ℕ
-waitOf U links = sum (map (λ l. half (U .headway (U .line l))) links)
+waitOf U links = firstWait U links + sum (map (turnWait U) (turnsOf U links))
 
 abbrev pub walkOf : View → List ℕ → ℕ
 walkOf U links = sum (map (U .walk) (turnsOf U links))

@@ -1,3 +1,4 @@
+pub mod Costs
 pub mod Backwards
 pub mod Net
 pub mod ViewNet

@@ -30,6 +30,7 @@ pub use pairs::pair_from;
 pub use pairs::pairs_of;
 pub use steps::link_cost;
 pub use steps::step_to;
+pub use steps::turn_cost;
 pub use turns::followers;
 pub use turns::turn_of;
 pub use walks::read_walks;

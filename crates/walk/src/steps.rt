@@ -1,4 +1,4 @@
-// A link's cost, and the step from a turn to the next.
+// What a walk's first link costs, what a turn adds, and the step from a turn to the next.
 use super::Between;
 use super::Step;
 use book::BARRED;
@@ -8,37 +8,80 @@ use book::TurnNumber;
 use book::line_headway;
 use book::link_line;
 use book::link_ride;
+use book::turn_first;
 use book::turn_second;
 ghost use mathlib.Core.Path.{_≡_};
 ghost use Prim.Native.Nat.{_+_, _<_};
 ghost use lib.ListN.{length};
 ghost use Rattle.book.specs.declared.Checked.the-variants.{Good};
-ghost use Rattle.book.specs.Tables.{turnTable};
-ghost use Rattle.book.specs.Entries.{turnSecond};
 ghost use Rattle.book.specs.Check.{checkOf};
 ghost use Rattle.walk.specs.View.{viewOf, viewWith};
-ghost use Rattle.walk.specs.Walks.{linkCost};
+ghost use Rattle.walk.specs.Walks.{linkWait, boards, turnWait};
+ghost use Rattle.walk.specs.steps.Costs.{linkCost, turnCost};
 ghost use Rattle.walk.specs.steps.Pairs.{stepTo};
 
-// Ride plus half the headway of its line, rounded up.
+// Half the headway of its line, rounded up.
+fn link_wait(book: &[u8], counts: Counts, link: LinkNumber) -> u32
+    requires { ⌜ (checkOf (now book) ≡ Good counts) × (link .0 < counts .links) ⌝ }
+    ensures { λ r. ⌜ r ≡ linkWait (viewOf (now (book .entry)) counts) (link .0) ⌝ }
+{
+    let line = link_line(book, counts, link);
+    let headway = line_headway(book, counts, line);
+    (headway as u32 + 1) / 2
+}
+
 pub fn link_cost(book: &[u8], counts: Counts, link: LinkNumber) -> u32
     requires { ⌜ (checkOf (now book) ≡ Good counts) × (link .0 < counts .links) ⌝ }
     ensures { λ r. ⌜ r ≡ linkCost (viewOf (now (book .entry)) counts) (link .0) ⌝ }
 {
     let ride = link_ride(book, counts, link);
-    let line = link_line(book, counts, link);
-    let headway = line_headway(book, counts, line);
-    ride as u32 + (headway as u32 + 1) / 2
+    ride as u32 + link_wait(book, counts, link)
 }
 
-// What an open turn adds: the extra, its walk and the cost of its second link.
-fn seconds_more(book: &[u8], counts: Counts, walk: u16, extra: u16, turn: TurnNumber) -> u32
-    requires { ⌜ (checkOf (now book) ≡ Good counts) × (turn .0 < counts .turns) ⌝ }
-    ensures { λ r. ⌜ r ≡ extra + walk + linkCost (viewOf (now (book .entry)) counts) (turnSecond (turnTable (now (book .entry)) counts) (turn .0)) ⌝ }
+// Document 02, request 1: who walks, or changes lines, waits again.
+fn turn_boards(book: &[u8], counts: Counts, walks: &[u16], turn: TurnNumber) -> bool
+    requires { ⌜ checkOf (now book) ≡ Good counts ⌝ }
+    requires { ⌜ (length (now walks) ≡ counts .turns) × (turn .0 < counts .turns) ⌝ }
+    ensures { λ r. ⌜ r ≡ boards (viewWith (now (book .entry)) counts (now (walks .entry))) (turn .0) ⌝ }
 {
-    let link = turn_second(book, counts, turn);
-    let cost = link_cost(book, counts, link);
-    extra as u32 + walk as u32 + cost
+    let walk = walks[turn.0 as usize];
+    let first = turn_first(book, counts, turn);
+    let second = turn_second(book, counts, turn);
+    let line_before = link_line(book, counts, first);
+    let line = link_line(book, counts, second);
+    (0 < walk) | !(line_before == line)
+}
+
+fn turn_wait(book: &[u8], counts: Counts, walks: &[u16], turn: TurnNumber) -> u32
+    requires { ⌜ checkOf (now book) ≡ Good counts ⌝ }
+    requires { ⌜ (length (now walks) ≡ counts .turns) × (turn .0 < counts .turns) ⌝ }
+    ensures { λ r. ⌜ r ≡ turnWait (viewWith (now (book .entry)) counts (now (walks .entry))) (turn .0) ⌝ }
+{
+    if !turn_boards(book, counts, walks, turn) {
+        return 0;
+    }
+    let second = turn_second(book, counts, turn);
+    link_wait(book, counts, second)
+}
+
+pub fn turn_cost(book: &[u8], counts: Counts, walks: &[u16], turn: TurnNumber) -> u32
+    requires { ⌜ checkOf (now book) ≡ Good counts ⌝ }
+    requires { ⌜ (length (now walks) ≡ counts .turns) × (turn .0 < counts .turns) ⌝ }
+    ensures { λ r. ⌜ r ≡ turnCost (viewWith (now (book .entry)) counts (now (walks .entry))) (turn .0) ⌝ }
+{
+    let walk = walks[turn.0 as usize];
+    let second = turn_second(book, counts, turn);
+    let ride = link_ride(book, counts, second);
+    walk as u32 + (ride as u32 + turn_wait(book, counts, walks, turn))
+}
+
+// The same after an extra.
+fn seconds_more(book: &[u8], counts: Counts, walks: &[u16], extra: u16, turn: TurnNumber) -> u32
+    requires { ⌜ checkOf (now book) ≡ Good counts ⌝ }
+    requires { ⌜ (length (now walks) ≡ counts .turns) × (turn .0 < counts .turns) ⌝ }
+    ensures { λ r. ⌜ r ≡ extra + turnCost (viewWith (now (book .entry)) counts (now (walks .entry))) (turn .0) ⌝ }
+{
+    extra as u32 + turn_cost(book, counts, walks, turn)
 }
 
 // The step to a turn, after what stands between it and the turn before.
@@ -58,9 +101,15 @@ pub fn step_to(
         return Step::Barred;
     }
     match stands {
-        Between::Listed(extra) => Step::Seconds(seconds_more(book, counts, walk, extra, turn)),
+        Between::Listed(extra) => Step::Seconds(seconds_more(book, counts, walks, extra, turn)),
         Between::Forbidden => Step::Barred,
-        Between::CarriedOver(extra) => Step::Seconds(seconds_more(book, counts, walk, extra, turn)),
-        Between::Nothing => Step::Seconds(seconds_more(book, counts, walk, 0, turn)),
+        Between::CarriedOver(extra) => Step::Seconds(seconds_more(
+            book,
+            counts,
+            walks,
+            extra,
+            turn,
+        )),
+        Between::Nothing => Step::Seconds(seconds_more(book, counts, walks, 0, turn)),
     }
 }

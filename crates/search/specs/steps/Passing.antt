@@ -4,7 +4,8 @@ use mathlib.Core.Bool.{Bool, true, false}
 use Rattle.walk.specs.declared.Step.{Step}
 use Rattle.walk.specs.declared.Step.the-variants.{Barred, Seconds}
 use Rattle.walk.specs.View.{View}
-use Rattle.walk.specs.Walks.{between, seconds, linkCost}
+use Rattle.walk.specs.Walks.{between, seconds}
+use Rattle.walk.specs.steps.Costs.{turnCost}
 use Rattle.walk.specs.Labels.{Entry, Table}
 use Rattle.walk.specs.steps.ViewNet.{mayFollow}
 use Rattle.search.specs.steps.Tables.{oneTurnOn, goesAhead, offered}
@@ -28,7 +29,7 @@ offeredIf false new old = old
 
 -- what turn p, of this cost and these links, offers turn t
 abbrev pub onwardTo : View → ℕ → ℕ → ℕ → ℕ → Entry
-onwardTo U p cost links t = record { cost = cost + (seconds (between U p t) + U .walk t + linkCost U (U .second t)); links = suc links; back = p }
+onwardTo U p cost links t = record { cost = cost + (seconds (between U p t) + turnCost U t); links = suc links; back = p }
 
 -- what turn t's entry becomes when turn p is settled
 unfoldable pub passedTo : View → ℕ → ℕ → ℕ → Entry → ℕ → Entry

@@ -5,7 +5,8 @@ use mathlib.Core.Bool.{Bool, true, not, _&&_}
 use lib.Dec.{ltb, eqb}
 use Rattle.book.specs.Entries.{barred}
 use Rattle.walk.specs.View.{View}
-use Rattle.walk.specs.Walks.{twos, all, sum, turnOf, between, allowed, seconds, half, linkCost}
+use Rattle.walk.specs.Walks.{twos, all, sum, turnOf, between, allowed, seconds, linkWait, turnWait}
+use Rattle.walk.specs.steps.Costs.{turnCost}
 
 abbrev pub turnsBack : View → List ℕ → List ℕ
 turnsBack U links = twos (λ b a. turnOf U a b) links
@@ -24,10 +25,16 @@ permittedBack U r links =
     && all (map (λ t. not (eqb (U .walk t) barred)) (turnsBack U links))
     && all (twos (λ t p. allowed (between U p t)) (turnsBack U links))
 
+-- the first link is the last read
+abbrev pub firstWaitBack : View → List ℕ → ℕ
+firstWaitBack U [] = 0
+firstWaitBack U (l ∷ []) = linkWait U l
+firstWaitBack U (b ∷ a ∷ rest) = firstWaitBack U (a ∷ rest)
+
 unfoldable pub costBack : View → List ℕ → ℕ
 costBack U links =
     sum (map (U .ride) links)
-    + sum (map (λ l. half (U .headway (U .line l))) links)
+    + (firstWaitBack U links + sum (map (turnWait U) (turnsBack U links)))
     + sum (map (U .walk) (turnsBack U links))
     + sum (twos (λ t p. seconds (between U p t)) (turnsBack U links))
 
@@ -50,4 +57,4 @@ stepPermitted U b a turns =
     && mayCome U (turnOf U a b) turns
 
 unfoldable pub stepCost : View → ℕ → ℕ → List ℕ → ℕ
-stepCost U b a turns = extraAfter U (turnOf U a b) turns + U .walk (turnOf U a b) + linkCost U b
+stepCost U b a turns = extraAfter U (turnOf U a b) turns + turnCost U (turnOf U a b)

@@ -11,7 +11,7 @@ use Rattle.walk.specs.declared.Between.the-variants.{Listed, Forbidden, 
 use Rattle.walk.specs.declared.Step.{Step}
 use Rattle.walk.specs.declared.Step.the-variants.{Barred, Seconds}
 use Rattle.walk.specs.View.{View, foundOr}
-use Rattle.walk.specs.Walks.{linkCost}
+use Rattle.walk.specs.steps.Costs.{turnCost}
 
 -- the first pair of those from `from` up to `to` whose second turn is t or a later one, or `to`
 unfoldable pub pairFrom : List ℕ → ℕ → ℕ → ℕ → ℕ
@@ -23,7 +23,7 @@ listedAt table at to t = foundOr (ltb at to && eqb (pairSecond table at) t) (pai
 
 -- turn t after what stands between: barred where it is closed or forbidden, else the seconds that it adds
 abbrev pub secondsMore : View → ℕ → ℕ → ℕ
-secondsMore U extra t = extra + U .walk t + linkCost U (U .second t)
+secondsMore U extra t = extra + turnCost U t
 
 abbrev pub openStep : View → ℕ → Between → Step
 openStep U t (Listed extra) = Seconds (secondsMore U extra t)

@@ -4,7 +4,8 @@ use mathlib.Core.Bool.{Bool, true, false, not, _&&_}
 use lib.Dec.{eqb}
 use Rattle.book.specs.Entries.{barred}
 use Rattle.walk.specs.View.{View}
-use Rattle.walk.specs.Walks.{between, allowed, seconds, linkCost}
+use Rattle.walk.specs.Walks.{between, allowed, seconds}
+use Rattle.walk.specs.steps.Costs.{linkCost, turnCost}
 use Rattle.walk.specs.Labels.{Key, Less, Entry, startBack, noEntry}
 use Rattle.walk.specs.steps.Net.{Net, Back, start, via, Entry as Reached, unreached, reached}
 
@@ -29,9 +30,9 @@ net U r =
       leaves = λ l. eqb (U .from l) r;
       alone = λ l. key (linkCost U l) 1;
       begins = λ t. isOpen U t && eqb (U .from (U .first t)) r;
-      begin = λ t. key (linkCost U (U .first t) + (U .walk t + linkCost U (U .second t))) 2;
+      begin = λ t. key (linkCost U (U .first t) + turnCost U t) 2;
       follows = mayFollow U;
-      extend = λ p t k. key (k .cost + (seconds (between U p t) + U .walk t + linkCost U (U .second t))) (suc (k .links));
+      extend = λ p t k. key (k .cost + (seconds (between U p t) + turnCost U t)) (suc (k .links));
       empty = key 0 0;
       enters = U .to;
     }

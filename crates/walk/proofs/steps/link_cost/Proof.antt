@@ -1,44 +1,35 @@
--- The line of a checked book's link exists.
+-- Ride and wait of a checked book's link are small enough that their sum fits.
 use borrow.Author.Needs.{needs}
-use Rattle.book.proofs.GoodBook.{good-book}
+use denote.Ref.{now}
+use mathlib.Core.List.{[]}
+use native.Mathlib.Omega.{arith}
+use Rattle.walk.proofs.GoodView.{link-limit}
 use Rattle.walk.proofs.steps.link_cost.Statement.{statement}
 use Rattle.walk.proofs.steps.link_cost.Tie as tie
 
 link-ride-requires : tie.Need-link-ride-requires
 link-ride-requires c κs = search needs
 
-link-line-requires : tie.Need-link-line-requires
-link-line-requires c κs = search needs
-
-line-headway-requires : tie.Need-line-headway-requires
-line-headway-requires c κs =
-    let start = c .before .before .before in
-    (start .pre .0, rw (c .link-line .ensures) (good-book _ _ (start .pre .0) .link _ (start .pre .1) .line))
-
 cast-result : tie.Need-cast-result
 cast-result c = search needs
 
-cast-result-2 : tie.Need-cast-result-2
-cast-result-2 c = search needs
+link-wait-requires : tie.Need-link-wait-requires
+link-wait-requires c κs = search needs
 
 add-result : tie.Need-add-result
-add-result c = search needs
-
-add-result-2 : tie.Need-add-result-2
-add-result-2 c = search needs
+add-result c =
+    let start = c .before .before .before in
+    omega (arith, c .link-wait .ensures, c .before .link-ride .ensures, link-limit (now (start .args .book)) (start .args .counts) [] (start .pre .0) (start .args .link .0) (start .pre .1))
 
 returns : tie.Need-returns
-returns c = rw (c .line-headway .ensures, c .before .link-line .ensures, c .before .before .link-ride .ensures)
+returns c = rw (c .link-wait .ensures, c .before .link-ride .ensures)
 
 pub link-cost-spec : {M : Type 1} → statement M
 link-cost-spec =
     tie.close
     (tie.spec
     link-ride-requires
-    link-line-requires
-    line-headway-requires
     cast-result
-    cast-result-2
+    link-wait-requires
     add-result
-    add-result-2
     returns)

@@ -1,32 +1,21 @@
--- A link of a checked book costs little enough that the sum fits.
+-- A turn of a checked book adds little enough that the sum fits.
 use borrow.Author.Needs.{needs}
-use mathlib.Core.List.{[]}
+use denote.Ref.{now}
 use native.Mathlib.Omega.{arith}
-use Rattle.book.proofs.GoodBook.{good-book}
-use Rattle.walk.proofs.GoodView.{link-limit}
+use Rattle.walk.proofs.GoodView.{turn-limit}
 use Rattle.walk.proofs.steps.seconds_more.Statement.{statement}
 use Rattle.walk.proofs.steps.seconds_more.Tie as tie
 
-turn-second-requires : tie.Need-turn-second-requires
-turn-second-requires c κs = search needs
-
-link-cost-requires : tie.Need-link-cost-requires
-link-cost-requires c κs =
-    let start = c .before .before in
-    (start .pre .0, rw (c .turn-second .ensures) (good-book _ _ (start .pre .0) .turn _ (start .pre .1) .second))
+turn-cost-requires : tie.Need-turn-cost-requires
+turn-cost-requires c κs = search needs
 
 add-result : tie.Need-add-result
-add-result c = search needs
-
-add-result-2 : tie.Need-add-result-2
-add-result-2 c =
+add-result c =
     let start = c .before .before .before in
-    let within = good-book _ _ (start .pre .0) .turn _ (start .pre .1) .second in
-    omega (arith, c .link-cost .ensures, link-limit _ _ [] (start .pre .0) _ (rw (← c .before .turn-second .ensures) at within))
+    omega (arith, c .turn-cost .ensures, turn-limit (now (start .args .book)) (start .args .counts) (now (start .args .walks)) (start .pre .0) (start .args .turn .0) (start .pre .1 .1), c .before .shared-slice-known2 .given (start .args .turn .0))
 
 returns : tie.Need-returns
-returns c = rw (c .link-cost .ensures, c .before .turn-second .ensures)
+returns c = search needs
 
 pub seconds-more-spec : {M : Type 1} → statement M
-seconds-more-spec =
-    tie.close (tie.spec turn-second-requires link-cost-requires add-result add-result-2 returns)
+seconds-more-spec = tie.close (tie.spec turn-cost-requires add-result returns)

@@ -1,0 +1,66 @@
+-- What wrong printers would print of book A's route from 0 to 3, byte for byte.
+use Prim.Native.Nat.{ℕ, _≤_}
+use mathlib.Core.List.{List, [], _∷_, _++_}
+use lib.ListN.{length, drop}
+use Rattle.book.specs.BookA.{written, bookA}
+use Rattle.walk.specs.Cases.{All}
+use Rattle.walk.specs.Labelled.{RightAlone}
+use Rattle.sheet.specs.declared.Sheeted.the-variants.{Line}
+use Rattle.sheet.specs.Sheet.{longestLine, Sheet}
+use Rattle.sheet.specs.FareSheet.{longestText, FareSheet}
+
+-- nodes 0 and 3, then the book
+abbrev pub inputA : List ℕ
+inputA = written (0 ∷ 3 ∷ []) ++ bookA
+
+-- 0 342 5 0 1 3 1 2, without what ends the line
+abbrev pub routeA : List ℕ
+routeA = 48 ∷ 32 ∷ 51 ∷ 52 ∷ 50 ∷ 32 ∷ 53 ∷ 32 ∷ 48 ∷ 32 ∷ 49 ∷ 32 ∷ 51 ∷ 32 ∷ 49 ∷ 32 ∷ 50 ∷ []
+
+abbrev pub lineA : List ℕ
+lineA = routeA ++ (10 ∷ [])
+
+abbrev pub wrongLines : List (List ℕ)
+wrongLines =
+    -- a blank in place of the newline
+    (routeA ++ (32 ∷ []))
+    -- 0 0 0: the destination stands for the origin too
+    ∷ (48 ∷ 32 ∷ 48 ∷ 32 ∷ 48 ∷ 10 ∷ [])
+    -- 14 0: no permitted walk
+    ∷ (49 ∷ 52 ∷ 32 ∷ 48 ∷ 10 ∷ [])
+    ∷ []
+
+-- the contract allows these bytes at the front of the text, and the rest as it was
+abbrev pub Prints : List ℕ → List ℕ → Type 0
+Prints text bytes = Sheet inputA text (Line (length bytes)) (bytes ++ drop (length bytes) text)
+
+abbrev pub LinesRefused : Type 0
+LinesRefused = (text : List ℕ) → longestLine ≤ length text → All (RightAlone (Prints text) lineA) wrongLines
+
+-- metres of five links, the last of 70,000, and the basic fares of two lines: numbers of four bytes, in halves
+abbrev pub tableA : List ℕ
+tableA = written (3000 ∷ 0 ∷ 4001 ∷ 0 ∷ 2500 ∷ 0 ∷ 3500 ∷ 0 ∷ 4464 ∷ 1 ∷ 550 ∷ 0 ∷ 800 ∷ 0 ∷ [])
+
+-- nodes 0 and 3, then 10,000 and 5,000 metres, 100 won and the book's 97 bytes
+abbrev pub fareInputA : List ℕ
+fareInputA = written (0 ∷ 3 ∷ 10000 ∷ 0 ∷ 5000 ∷ 0 ∷ 100 ∷ 0 ∷ 97 ∷ 0 ∷ []) ++ bookA ++ tableA
+
+-- and 1000 on a second line
+abbrev pub textA : List ℕ
+textA = lineA ++ (49 ∷ 48 ∷ 48 ∷ 48 ∷ 10 ∷ [])
+
+abbrev pub wrongTexts : List (List ℕ)
+wrongTexts =
+    -- 17 0: the table is read from where the book begins
+    (49 ∷ 55 ∷ 32 ∷ 48 ∷ 10 ∷ [])
+    -- 10800: the premium is read from the step's place
+    ∷ (lineA ++ (49 ∷ 48 ∷ 56 ∷ 48 ∷ 48 ∷ 10 ∷ []))
+    -- the route's line alone
+    ∷ lineA
+    ∷ []
+
+abbrev pub FarePrints : List ℕ → List ℕ → Type 0
+FarePrints text bytes = FareSheet fareInputA text (Line (length bytes)) (bytes ++ drop (length bytes) text)
+
+abbrev pub TextsRefused : Type 0
+TextsRefused = (text : List ℕ) → longestText ≤ length text → All (RightAlone (FarePrints text) textA) wrongTexts

@@ -5,7 +5,7 @@ from inspect import signature
 from pathlib import Path
 
 import planner
-from desk import TWO_BYTES, Desk, Fault, answers_expected, held, number_of, tally
+from desk import TWO_BYTES, Desk, Fault, answers_expected, fault_unless_costs_add_up, held, number_of, tally
 from files import files
 from scripts import scripts
 from writing import written, written_fares
@@ -19,8 +19,8 @@ USAGE = """usage: python3 tools/second_planner QUESTION
 
 check BOOK                                  number and place, or 0 and nodes, lines, links, turns, pairs, carry-over
 labels BOOK ORIGIN                          0, then each turn's entry and each link's: cost, links, back
-cost BOOK ORIGIN LINK..                     0 and the cost of a given walk, or 'not permitted'
-route BOOK ORIGIN DESTINATION               the route printer's line
+cost BOOK ORIGIN LINK..                     0, cost, ride, wait, walk and extra of a given walk, or 'not permitted'
+route BOOK ORIGIN DESTINATION               the route printer's line: 0, the same five figures, number of links, links
 fare BOOK ORIGIN DESTINATION FARES          the fare printer's lines; FARES as for ./plan
 edit BOOK ORIGIN TURN WALK                  0 and two counts, then the labels of the edited book; WALK may be 'closed'
 sheet [FILE], fare-sheet [FILE]             what the printers print for such an input, or for standard input
@@ -113,6 +113,8 @@ def made():
     not_by_hand = made_before()
     by_hand = {path.name: path.read_bytes() for path in (DESK / "data").glob("*.desk") if path.name not in not_by_hand}
     all_scripts = {name: script for name, script in sorted({**by_hand, **data}.items()) if name.endswith(".desk")}
+    for name, script in all_scripts.items():
+        fault_unless_costs_add_up(name, script)
     tallies = [tally(name, answers_expected(script), 0) for name, script in all_scripts.items()]
     return {
         "args": "".join(f"{name}\n" for name in all_scripts).encode(),

@@ -27,6 +27,9 @@ REMARK, SIGN = (re.compile(f"(?<![^{BLANKS}]){letter}") for letter in "#=")
 REFUSED = "check", "cost", "search", "route", "fare", "edit"
 REFUSAL = re.compile(r"[1-9][0-9]* [0-9]+")
 
+# The questions whose answer begins with 0, cost, ride, wait, walk and extra where it is neither a refusal nor words.
+SPLIT = "cost", "route", "print", "print-fare"
+
 FILE_QUESTIONS = "open", "save", "same", "print", "print-fare"
 BUFFER_QUESTIONS = "alter", "lend"
 
@@ -277,7 +280,13 @@ class Desk:
         return said(number, place, *won, cost, count, *links[:count])
 
     def route(self, origin, destination, room=ROOM):
-        return self.routed(planner.route, origin, destination, room)
+        """The cost is the labels'; the four figures after it are those of the walk that was found."""
+        number, *figures = self.routed(planner.route, origin, destination, room)
+        if number != planner.DONE:
+            return [number, *figures]
+        cost, count, *links = figures
+        _, _, *split = planner.cost_of_walk(self.book, origin, links)
+        return [number, cost, *split, count, *links]
 
     def fares(self, *figures):
         fault_if(len(figures) - 3 > ROOM, f"fares more than {ROOM}")
@@ -306,6 +315,15 @@ def lines_of(script):
 
 def tally(name, right, wrong):
     return f"{name}: {right} as expected, {wrong} not"
+
+
+def fault_unless_costs_add_up(name, script):
+    """In a route the cost is the labels' and the four figures after it are the walk's, so that they could differ."""
+    for place, question, expected in lines_of(script):
+        if first_word(question)[0] in SPLIT and (expected or "").startswith(f"{planner.DONE} "):
+            cost, *split = map(int, expected.split()[1:6])
+            words = f"{name}, line {place}: ride, wait, walk and extra do not add up to the cost"
+            fault_if(len(split) != 4 or sum(split) != cost, words)
 
 
 def answers_expected(script):

@@ -83,8 +83,8 @@ walk.
 # Then the most numbers of a line and of a fare table, each with one more, and a line that ends with a carriage return.
 open book-a.book
 # as many links as the longest chosen walk can have
-{walk_between(4097)} = 0 239666
-{walk_between(65535)} = 0 3833789
+{walk_between(4097)} = 0 239666 225330 6144 8192 0
+{walk_between(65535)} = 0 3833789 3604420 98301 131068 0
 # no walk of more links is costed
 {walk_between(65536)} = too long
 # 65,600 numbers, the origin among them, then one more
@@ -139,7 +139,7 @@ BEFORE_ALTERATIONS = """\
 open book-a.book
 # a route comes first, so that what a 13 leaves in the route buffer is seen afterwards
 search 0 = 0
-route 0 3 5 = 0 342 5 0 1 3 1 2
+route 0 3 5 = 0 342 230 3 9 100 5 0 1 3 1 2
 """
 
 

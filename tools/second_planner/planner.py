@@ -1,4 +1,4 @@
-"""The rules of document 01, and of requests 1 and 3 in document 02, written a second time from the documents alone."""
+"""The rules of document 01 and of document 02, requests 1, 3 and 5, written a second time from the documents alone."""
 
 from collections import namedtuple
 from heapq import heappop, heappush
@@ -121,6 +121,20 @@ def turns_of(tables, walk):
     """None stands for a change that is not in the table."""
     return [tables.turn_numbers.get(change) for change in successive(walk)]
 
+def looked_up(tables, first, second):
+    """Which of four cases two successive turns are, and the seconds of that case; a forbidden pair has none."""
+    listed = tables.listed_extras.get((first, second))
+    if listed == FORBIDDEN:
+        return "forbidden", None
+    if listed is not None:
+        return "listed", listed
+    if tables.turns[first].walk > 0 and tables.turns[second].walk > 0:
+        return "carried over", tables.counts.carry_over
+    return "none", 0
+
+def all_looked_up(tables, turns):
+    return (looked_up(tables, *pair) for pair in successive(turns))
+
 def permitted(tables, origin, walk):
     if not all(0 <= link < tables.counts.links for link in walk):
         return False
@@ -128,7 +142,7 @@ def permitted(tables, origin, walk):
     return (all(tables.links[first].from_node == origin for first in walk[:1])
             and all(tables.links[before].to_node == tables.links[after].from_node for before, after in successive(walk))
             and all(turn is not None and tables.turns[turn].walk != CLOSED for turn in turns)
-            and all(tables.listed_extras.get(pair) != FORBIDDEN for pair in successive(turns)))
+            and all(case != "forbidden" for case, _ in all_looked_up(tables, turns)))
 
 def wait(tables, link):
     """Half the headway of its line, rounded up."""
@@ -146,18 +160,32 @@ def cost_of_turn(tables, turn):
     waited = wait(tables, turn.second) if boarding(tables, turn) else 0
     return turn.walk + waited + tables.links[turn.second].ride
 
-def extra_between(tables, first, second):
-    listed = tables.listed_extras.get((first, second))
-    if listed is not None:
-        return listed
-    both_walked = tables.turns[first].walk > 0 and tables.turns[second].walk > 0
-    return tables.counts.carry_over if both_walked else 0
-
-def cost(tables, walk):
+def cost_step_by_step(tables, walk):
+    """As labels add it up, and not from the four figures below, so that the two can be held against each other."""
     turns = turns_of(tables, walk)
     return (sum(cost_of_start(tables, first) for first in walk[:1])
             + sum(cost_of_turn(tables, tables.turns[turn]) for turn in turns)
-            + sum(extra_between(tables, first, second) for first, second in successive(turns)))
+            + sum(extra for _, extra in all_looked_up(tables, turns)))
+
+# Where the minutes go (document 02, request 5)
+
+def ride_of(tables, walk):
+    return sum(tables.links[link].ride for link in walk)
+
+def wait_of(tables, walk):
+    turns = [tables.turns[turn] for turn in turns_of(tables, walk)]
+    boarded = [*walk[:1], *(turn.second for turn in turns if boarding(tables, turn))]
+    return sum(wait(tables, link) for link in boarded)
+
+def walk_of(tables, walk):
+    return sum(tables.turns[turn].walk for turn in turns_of(tables, walk))
+
+def extra_of(tables, walk):
+    return sum(extra for _, extra in all_looked_up(tables, turns_of(tables, walk)))
+
+def split_of(tables, walk):
+    """Ride, wait, walk and extra; their sum is the walk's cost."""
+    return [figure(tables, walk) for figure in (ride_of, wait_of, walk_of, extra_of)]
 
 # Labels
 
@@ -183,7 +211,7 @@ def labels_by_listing(tables, origin):
     turn_chosen = [none_chosen] * tables.counts.turns
     link_chosen = [none_chosen] * tables.counts.links
     for walk in listed_walks(tables, origin):
-        order = (cost(tables, walk), len(walk), walk[::-1])
+        order = (cost_step_by_step(tables, walk), len(walk), walk[::-1])
         backs = [NO_BACK, *turns_of(tables, walk)]
         link_chosen[walk[-1]] = min(link_chosen[walk[-1]], (*order, backs[-1]))
         if len(walk) > 1:
@@ -219,8 +247,8 @@ def labels_by_heap(tables, origin):
         last_link = tables.turns[number].second
         link_entries[last_link] = min(link_entries[last_link], (total, links, number))
         for follower, added in followers[last_link]:
-            extra = extra_between(tables, number, follower)
-            if extra != FORBIDDEN:
+            case, extra = looked_up(tables, number, follower)
+            if case != "forbidden":
                 offer((total + extra + added, links + 1, number), follower)
     return labels_of(turn_entries, link_entries)
 
@@ -305,7 +333,8 @@ def cost_of_walk(book, origin, walk):
         return ("too long",)
     if not permitted(read, origin, walk):
         return ("not permitted",)
-    return "permitted", cost(read, walk)
+    split = split_of(read, walk)
+    return "permitted", sum(split), *split
 
 # The fare (document 02, request 3)
 
@@ -337,7 +366,7 @@ def printed_route(book, origin, destination):
     """The printers lend true labels and enough room, so 12, 13 and 15 cannot arise."""
     read = good_tables(book, origin, destination)
     total, walk = chosen_route(read, origin, destination, labels(read, origin))
-    return read, walk, printed(DONE, total, len(walk), *walk)
+    return read, walk, printed(DONE, total, *split_of(read, walk), len(walk), *walk)
 
 def sheet(given):
     book_start = 2 * NUMBER_LENGTH

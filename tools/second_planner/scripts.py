@@ -108,8 +108,8 @@ class Script:
         return int(number) == planner.DONE
 
     def route(self, origin, destination):
-        """Its links, none where it is refused."""
-        return [int(link) for link in self.ask("route", origin, destination)[3:]]
+        """Its links, which stand after seven figures; none where it is refused."""
+        return [int(link) for link in self.ask("route", origin, destination)[7:]]
 
     def route_length(self, origin, destination):
         return planner.route(self.desk.book, origin, destination, self.desk.lent(), [0] * ROOM)[3]

@@ -38,7 +38,7 @@ use script::within;
 use script::within_figures;
 use script::within_numbers;
 use script::word_end;
-use walk::cost_of;
+use search::cost_of;
 
 fn say_check(book: &[u8], length: usize, text: &mut [u8]) -> Said {
     let end = within(length, book);

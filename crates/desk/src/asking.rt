@@ -8,11 +8,15 @@ use fare::Terms;
 use fare::fare;
 use fare::fare_given_back;
 use script::Verb;
+use script::within_numbers;
 use search::Routed;
 use search::Searched;
+use search::cost_of;
 use search::route;
 use search::route_given_back;
 use search::search;
+use walk::Costed;
+use walk::Split;
 
 // A question with its numbers and the fares' terms.
 pub struct Asked {
@@ -23,12 +27,15 @@ pub struct Asked {
     pub terms: Terms,
 }
 
+// The most figures that an answer has beside number and place: those of a route.
+pub const MOST_FIGURES: usize = 6;
+
 // The figures that a question's answer has by document 01: number and place, so many others, and so many links of the route buffer after them.
 pub struct Told {
     pub number: u8,
     pub place: usize,
-    pub count: u8,
-    pub figures: [u64; 3],
+    pub count: usize,
+    pub figures: [u64; MOST_FIGURES],
     pub links: usize,
 }
 
@@ -38,19 +45,41 @@ fn of_searched(answer: Searched) -> Told {
         number: found.number,
         place: found.place,
         count: 0,
-        figures: [0, 0, 0],
+        figures: [0, 0, 0, 0, 0, 0],
         links: 0,
     }
 }
 
-// Cost and number of links; the links follow.
-fn of_routed(answer: Routed) -> Told {
+// Where the minutes of a walk go, asked as those of a given one.
+fn split_of(book: &[u8], origin: NodeNumber, links: &[u16]) -> Split {
+    match cost_of(book, origin, links) {
+        Costed::Permitted(_, split) => split,
+        _ => Split {
+            ride: 0,
+            wait: 0,
+            walk: 0,
+            extra: 0,
+        },
+    }
+}
+
+// Cost, where the minutes go, and number of links; the links follow.
+fn of_routed(answer: Routed, book: &[u8], origin: NodeNumber, links: &[u16]) -> Told {
     let found = route_given_back(answer);
+    let end = within_numbers(found.links as usize, links);
+    let split = split_of(book, origin, &links[..end]);
     Told {
         number: found.number,
         place: found.place,
-        count: 2,
-        figures: [found.cost as u64, found.links as u64, 0],
+        count: 6,
+        figures: [
+            found.cost as u64,
+            split.ride as u64,
+            split.wait as u64,
+            split.walk as u64,
+            split.extra as u64,
+            found.links as u64,
+        ],
         links: found.links as usize,
     }
 }
@@ -62,7 +91,7 @@ fn of_fared(answer: Fared) -> Told {
         number: found.number,
         place: found.place,
         count: 3,
-        figures: [found.fare.0, found.cost as u64, found.links as u64],
+        figures: [found.fare.0, found.cost as u64, found.links as u64, 0, 0, 0],
         links: found.links as usize,
     }
 }
@@ -74,7 +103,7 @@ fn of_edited(answer: Edited) -> Told {
         number: found.number,
         place: found.place,
         count: 2,
-        figures: [found.turns as u64, found.links as u64, 0],
+        figures: [found.turns as u64, found.links as u64, 0, 0, 0, 0],
         links: 0,
     }
 }
@@ -104,18 +133,21 @@ pub fn put_question(
             link_links,
             link_back,
         )),
-        Verb::Route => of_routed(route(
-            book,
-            origin,
-            NodeNumber(asked.second),
-            turn_cost,
-            turn_links,
-            turn_back,
-            link_cost,
-            link_links,
-            link_back,
-            links,
-        )),
+        Verb::Route => {
+            let answer = route(
+                book,
+                origin,
+                NodeNumber(asked.second),
+                turn_cost,
+                turn_links,
+                turn_back,
+                link_cost,
+                link_links,
+                link_back,
+                links,
+            );
+            of_routed(answer, book, origin, links)
+        }
         Verb::Fare => of_fared(fare(
             book,
             origin,

@@ -1,4 +1,5 @@
 // What the layers answer, in figures and words.
+use super::asking::MOST_FIGURES;
 use super::asking::Told;
 use book::Checked;
 use script::put_figure;
@@ -30,27 +31,32 @@ fn put_where(text: &mut [u8], at: usize, figure: u64, wanted: bool) -> usize {
     at
 }
 
-// A refusal's other figures are 0: one that were not would be said.
-fn put_refused(told: Told, text: &mut [u8]) -> usize {
-    let figures = told.figures;
-    let at = put_figure(text, 0, told.number as u64);
-    let at = put_figure(text, at, told.place as u64);
-    let at = put_where(text, at, figures[0], figures[0] != 0);
-    let at = put_where(text, at, figures[1], figures[1] != 0);
-    let at = put_where(text, at, figures[2], figures[2] != 0);
-    put_why(text, at, told.number)
+// An answer's figures as far as it has them; what lies past them is 0, and would be said if it were not.
+fn put_others(text: &mut [u8], from: usize, figures: [u64; MOST_FIGURES], count: usize) -> usize {
+    let mut at = from;
+    let mut passed = 0;
+    while passed < MOST_FIGURES {
+        at = put_where(
+            text,
+            at,
+            figures[passed],
+            (passed < count) | (figures[passed] != 0),
+        );
+        passed += 1;
+    }
+    at
 }
 
+// A refusal's other figures are 0: one that were not would be said.
 pub fn put_told(told: Told, text: &mut [u8]) -> usize {
-    if told.number != 0 {
-        return put_refused(told, text);
-    }
-    let count = told.count;
     let figures = told.figures;
-    let at = put_figure(text, 0, 0);
-    let at = put_where(text, at, figures[0], 0 < count);
-    let at = put_where(text, at, figures[1], 1 < count);
-    put_where(text, at, figures[2], 2 < count)
+    let at = put_figure(text, 0, told.number as u64);
+    if told.number == 0 {
+        return put_others(text, at, figures, told.count);
+    }
+    let at = put_figure(text, at, told.place as u64);
+    let at = put_others(text, at, figures, 0);
+    put_why(text, at, told.number)
 }
 
 // 0 and the header's figures.
@@ -69,15 +75,19 @@ pub fn put_checked(answer: Checked, text: &mut [u8]) -> usize {
     }
 }
 
-// 0 and the cost, or why the walk has none.
+// 0, the cost and where the minutes go, or why the walk has none.
 pub fn put_costed(answer: Costed, text: &mut [u8]) -> usize {
     match answer {
         Costed::Refused(found) => put_refusal(text, found.number, found.place),
         Costed::TooLong => put_words(text, 0, b"too long"),
         Costed::NotPermitted => put_words(text, 0, b"not permitted"),
-        Costed::Permitted(cost) => {
+        Costed::Permitted(cost, split) => {
             let at = put_figure(text, 0, 0);
-            put_figure(text, at, cost as u64)
+            let at = put_figure(text, at, cost as u64);
+            let at = put_figure(text, at, split.ride as u64);
+            let at = put_figure(text, at, split.wait as u64);
+            let at = put_figure(text, at, split.walk as u64);
+            put_figure(text, at, split.extra as u64)
         }
     }
 }

@@ -75,25 +75,25 @@ fn no_room() {
     let mut none = [MARK; 0];
     let answered = sheet(&[], &mut none);
     say_sheet(b"a sheet in a text of no byte: ", answered, &none);
-    let mut short = [MARK; 20501];
+    let mut short = [MARK; 20541];
     let answered = sheet(&[], &mut short);
-    say_sheet(b"a sheet in a text of 20501 bytes: ", answered, &short);
-    let mut short = [MARK; 20516];
+    say_sheet(b"a sheet in a text of 20541 bytes: ", answered, &short);
+    let mut short = [MARK; 20556];
     let answered = fare_sheet(&[], &mut short);
-    say_sheet(b"a fare sheet in a text of 20516 bytes: ", answered, &short);
+    say_sheet(b"a fare sheet in a text of 20556 bytes: ", answered, &short);
 }
 
 fn room(input: &[u8]) {
-    let mut text = [MARK; 20502];
+    let mut text = [MARK; 20542];
     let answered = sheet(input, &mut text);
     say_sheet(
-        b"book A's sheet in a text of 20502 bytes: ",
+        b"book A's sheet in a text of 20542 bytes: ",
         answered,
         &text,
     );
-    let mut text = [MARK; 20517];
+    let mut text = [MARK; 20557];
     let answered = fare_sheet(&[], &mut text);
-    say_sheet(b"a fare sheet in a text of 20517 bytes: ", answered, &text);
+    say_sheet(b"a fare sheet in a text of 20557 bytes: ", answered, &text);
 }
 
 fn say_fare(name: &[u8], distance: u64, premium: u64) {

@@ -20,6 +20,7 @@ pub mod Judged
 pub mod Tested
 pub mod RouteLaws
 pub mod RouteRoom
+pub mod RouteAccounted
 pub mod Determined
 pub mod NoRouteA
 pub mod SearchesRefused

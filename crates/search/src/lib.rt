@@ -26,6 +26,7 @@ pub use judging::labels_true;
 pub use labels::label_at;
 pub use labels::same_label;
 pub use offered::check;
+pub use offered::cost_of;
 pub use offered::link_line;
 pub use offered::number_at;
 pub use offered::seconds_good;

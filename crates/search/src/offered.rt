@@ -1,8 +1,10 @@
-// What the layers above need of the day book, offered on.
+// What the layers above need of the day book and of walks, offered on.
 use book::Checked;
 use book::Counts;
 use book::LinkNumber;
+use book::NodeNumber;
 use book::TurnNumber;
+use walk::Costed;
 ghost use mathlib.Core.Path.{_≡_};
 ghost use Prim.Native.Nat.{_+_, _<_};
 ghost use lib.ListN.{length};
@@ -12,6 +14,7 @@ ghost use Rattle.book.specs.Tables.{linkTable};
 ghost use Rattle.book.specs.Entries.{linkLine, secondsGood};
 ghost use Rattle.book.specs.Check.{checkOf};
 ghost use Rattle.book.specs.Changes.{withWalk};
+ghost use Rattle.walk.specs.Given.{costOfWalk};
 
 pub fn check(book: &[u8]) -> Checked
     ensures { λ r. ⌜ r ≡ checkOf (now (book .entry)) ⌝ }
@@ -44,4 +47,10 @@ pub fn write_walk(book: &mut [u8], counts: Counts, turn: TurnNumber, seconds: u1
     ensures { λ _. ⌜ now (book .exit) ≡ withWalk (now (book .entry)) counts (turn .0) seconds ⌝ }
 {
     walk::write_walk(book, counts, turn, seconds)
+}
+
+pub fn cost_of(book: &[u8], origin: NodeNumber, links: &[u16]) -> Costed
+    ensures { λ r. ⌜ r ≡ costOfWalk (now (book .entry)) (origin .0) (now (links .entry)) ⌝ }
+{
+    walk::cost_of(book, origin, links)
 }

@@ -1,7 +1,7 @@
 -- The fare of book A's route from 0 to 3: link 1 is ridden twice, so 17,002 metres begin two steps of 5,000 beyond 10,000, and the dearer of the two lines costs 800.
 use Prim.Native.Nat.{ℕ}
-use mathlib.Core.Path.{_≡_, refl, sym, ap}
-use mathlib.Core.List.{[], _∷_}
+use mathlib.Core.Path.{_≡_, refl, ap}
+use mathlib.Core.List.{List, [], _∷_}
 use native.Mathlib.Omega.{arith}
 use Rattle.book.specs.Number.{numberAt}
 use Rattle.book.specs.FirstBad.{firstBadFrom}
@@ -14,11 +14,11 @@ use Rattle.fare.specs.Fare.{fareOf}
 use Rattle.sheet.specs.Line.{decimalIn, decimal, further, line}
 use Rattle.sheet.specs.FareSheet.{longAt, bytesGood, done, FareSays, asked, textOf}
 use Rattle.sheet.specs.RefusedLines.{fareInputA, textA}
-use Rattle.sheet.proofs.BookALine.{linksA, fieldsA, nodes-a}
+use Rattle.sheet.proofs.BookALine.{linksA, fieldsA, nodes-a, fields-a}
 
 pub fare-says-a : FareSays fareInputA (fieldsA ∷ (1000 ∷ []) ∷ [])
 unfolding numberAt longAt upTo bytesGood faresGood tableGood termsGood fareOf startedSteps firstBadFrom
-fare-says-a = asked (omega arith) (done countsA nodes-a linksA (route-to-three .route) refl (ap (λ (cost : ℕ). (0 ∷ cost ∷ 5 ∷ linksA) ∷ (1000 ∷ []) ∷ []) (sym (route-to-three .costs))))
+fare-says-a = asked (omega arith) (done countsA nodes-a linksA (route-to-three .route) refl (ap (λ (fields : List ℕ). fields ∷ (1000 ∷ []) ∷ []) fields-a))
 
 pub text-a : textOf (fieldsA ∷ (1000 ∷ []) ∷ []) ≡ textA
 unfolding textOf line further decimal decimalIn

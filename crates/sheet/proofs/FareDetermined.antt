@@ -7,13 +7,12 @@ use lib.ListN.{length}
 use Rattle.book.specs.declared.Counts.{Counts}
 use Rattle.book.specs.declared.Checked.the-variants.{Good}
 use Rattle.walk.specs.View.{viewOf}
-use Rattle.walk.specs.Walks.{costOf}
 use Rattle.walk.specs.Labels.{Route}
 use Rattle.walk.proofs.theory.Laws.{clash}
 use Rattle.search.specs.Tests.{bothNodes}
 use Rattle.fare.specs.declared.Terms.{Terms}
 use Rattle.sheet.specs.declared.Sheeted.{Sheeted}
-use Rattle.sheet.specs.Sheet.{originOf, destinationOf, Planned, done as planned}
+use Rattle.sheet.specs.Sheet.{originOf, destinationOf, routeFields, Planned, done as planned}
 use Rattle.sheet.specs.FareSheet.{bookIn, tableIn, termsOf, FarePlanned, refused, bad-fares, done, FareSays, short, asked, FareSheet, no-room, printed}
 use Rattle.sheet.proofs.Determined.{counts-one, RouteIn, one-route, plan-one}
 
@@ -21,7 +20,7 @@ module _ (book : List ℕ) (r s : ℕ) where
   -- a refusal's line has two fields, and a route's has more
   not-both : (number place : ℕ) → Planned book r s (number ∷ place ∷ []) → (counts : Counts) → bothNodes book r s ≡ Good counts → (links : List ℕ) → Route (viewOf book counts) r s links → ⊥
   not-both number place plan counts e links route =
-      let same : number ∷ place ∷ [] ≡ 0 ∷ costOf (viewOf book counts) links ∷ length links ∷ links = plan-one book r s _ _ plan (planned counts e links route refl) in
+      let same : number ∷ place ∷ [] ≡ routeFields (viewOf book counts) links = plan-one book r s _ _ plan (planned counts e links route refl) in
       clash (cc)
 
   module _ (table : List ℕ) (terms : Terms) where

@@ -10,18 +10,18 @@ use Rattle.book.specs.declared.Counts.{Counts}
 use Rattle.book.specs.declared.Checked.the-variants.{Good}
 use Rattle.book.specs.Check.{checkOf}
 use Rattle.walk.specs.View.{viewOf}
-use Rattle.walk.specs.Walks.{costOf}
 use Rattle.walk.specs.Labels.{Route}
 use Rattle.search.proofs.RouteRoom.{room-serves, links-exist}
 use Rattle.fare.specs.declared.Terms.{Terms}
 use Rattle.fare.proofs.GoodFares.{rest-whole}
 use Rattle.sheet.specs.declared.Sheeted.the-variants.{Line}
-use Rattle.sheet.specs.Sheet.{Planned, done as planned}
+use Rattle.sheet.specs.Sheet.{routeFields, Planned, done as planned}
 use Rattle.sheet.specs.FareSheet.{FarePlanned, refused, bad-fares, done, FareSays, longestText, FareSheet, printed}
 use Rattle.sheet.specs.steps.Faring.{RouteToFare, FareTold, bad-fares as told-bad, done as told-fare, LinesPut, BookEnd}
+use Rattle.sheet.specs.steps.Routes.{askedFields}
 use Rattle.sheet.proofs.TestLaws.{tests-passed}
 use Rattle.sheet.proofs.Longest.{longest-plan}
-use Rattle.sheet.proofs.Plans.{Led, led-planned}
+use Rattle.sheet.proofs.Plans.{Led, led-fields, led-planned}
 
 module _ (book : List ℕ) (r s : ℕ) (after : List ℕ) (cost count : ℕ) (led : Led book r s after cost count) (counts : Counts) (checked : checkOf book ≡ Good counts) where
   abbrev links : List ℕ
@@ -35,7 +35,7 @@ module _ (book : List ℕ) (r s : ℕ) (after : List ℕ) (cost count : ℕ) (le
   route : Route (viewOf book counts) r s links
   route = subst (λ (x : Counts). Route (viewOf book x) r s links) same (led .route)
 
-  pub led-to-fare : RouteToFare book counts cost links
+  pub led-to-fare : RouteToFare book counts r cost links
   led-to-fare =
       let few = room-serves book r s counts checked links route .0 in
       record {
@@ -45,11 +45,11 @@ module _ (book : List ℕ) (r s : ℕ) (after : List ℕ) (cost count : ℕ) (le
         fits = longest-plan book r s _ (led-planned led);
       }
 
-  pub told-planned : (table : List ℕ) (terms : Terms) (lines : List (List ℕ)) → FareTold book counts table terms cost links lines → FarePlanned book r s table terms lines
+  pub told-planned : (table : List ℕ) (terms : Terms) (lines : List (List ℕ)) → FareTold book counts table terms r cost links lines → FarePlanned book r s table terms lines
   told-planned table terms lines (told-bad bad f) = bad-fares counts (rw (← same) (led .passed)) links route bad f
   told-planned table terms lines (told-fare good f) =
-      let costs : cost ≡ costOf (viewOf book counts) links = rw (← same) (led .costs) in
-      done counts (rw (← same) (led .passed)) links route good (rw (← costs) f)
+      let own : askedFields book r cost links ≡ routeFields (viewOf book counts) links = rw (← same) (led-fields led) in
+      done counts (rw (← same) (led .passed)) links route good (rw (← own) f)
 
 -- the parts of the input before and after the book's end
 module _ (input : List ℕ) (from bytes place : ℕ) (ends : BookEnd from bytes (length input) place) where

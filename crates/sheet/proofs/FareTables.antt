@@ -21,7 +21,8 @@ use Rattle.fare.specs.Fares.{faresOf, faresGood}
 use Rattle.fare.specs.Fare.{fareOf}
 use Rattle.fare.proofs.GoodFares.{other-length}
 use Rattle.sheet.specs.FareSheet.{longAt, entryBytes, entriesOf, bytesGood}
-use Rattle.sheet.specs.steps.Faring.{FaresRead, routeFields, FareTold, done}
+use Rattle.sheet.specs.steps.Faring.{FaresRead, FareTold, done}
+use Rattle.sheet.specs.steps.Routes.{askedFields}
 
 -- 2,048 links and 256 lines, four bytes each
 abbrev pub mostTable : ℕ
@@ -75,5 +76,5 @@ module _ {counts : Counts} {bytes : List ℕ} {terms : Terms} {table after : Lis
   pub read-good : faresGood counts after terms ≡ true
   read-good = rw entries-read (good-entries counts bytes terms bytes-good)
 
-  pub fare-told : {book : List ℕ} {cost : ℕ} {links : List ℕ} (fare : Won) → fare ≡ fareOf (faresOf (viewOf book counts) after terms) links → FareTold book counts bytes terms cost links (routeFields cost links ∷ (fare .0 ∷ []) ∷ [])
-  fare-told {book} {cost} {links} fare e = done bytes-good (rw (e, entries-read))
+  pub fare-told : {book : List ℕ} {r cost : ℕ} {links : List ℕ} (fare : Won) → fare ≡ fareOf (faresOf (viewOf book counts) after terms) links → FareTold book counts bytes terms r cost links (askedFields book r cost links ∷ (fare .0 ∷ []) ∷ [])
+  fare-told {book} {r} {cost} {links} fare e = done bytes-good (rw (e, entries-read))

@@ -54,14 +54,23 @@ pub line-two : (first second : ℕ) → line (first ∷ second ∷ []) ≡ decim
 unfolding line
 line-two first second = refl
 
-pub line-more : (first second third : ℕ) (rest : List ℕ) → line (first ∷ second ∷ third ∷ rest) ≡ decimal first ++ further (second ∷ []) ++ further (third ∷ []) ++ further rest ++ (newline ∷ [])
+-- a first and a second field, some between, one more and the rest
+pub line-more : (first second : ℕ) (between : List ℕ) (third : ℕ) (rest : List ℕ) → line (first ∷ second ∷ (between ++ (third ∷ rest))) ≡ decimal first ++ further (second ∷ []) ++ further between ++ further (third ∷ []) ++ further rest ++ (newline ∷ [])
 unfolding line
-line-more first second third rest =
+line-more first second between third rest =
     ap (λ (bytes : List ℕ). bytes ++ (newline ∷ []))
-    (ap (λ (bytes : List ℕ). decimal first ++ bytes) (further-append (second ∷ []) (third ∷ rest))
-    ∙ ap (λ (bytes : List ℕ). decimal first ++ (further (second ∷ []) ++ bytes)) (further-append (third ∷ []) rest)
-    ∙ sym (append-assoc (decimal first) (further (second ∷ [])) (further (third ∷ []) ++ further rest))
-    ∙ sym (append-assoc (decimal first ++ further (second ∷ [])) (further (third ∷ [])) (further rest)))
+    (ap (λ (bytes : List ℕ). decimal first ++ bytes) (further-append (second ∷ between) (third ∷ rest))
+    ∙ ap (λ (bytes : List ℕ). decimal first ++ (bytes ++ further (third ∷ rest))) (further-append (second ∷ []) between)
+    ∙ ap (λ (bytes : List ℕ). decimal first ++ ((further (second ∷ []) ++ further between) ++ bytes)) (further-append (third ∷ []) rest)
+    ∙ sym (append-assoc (decimal first) (further (second ∷ []) ++ further between) (further (third ∷ []) ++ further rest))
+    ∙ ap (λ (bytes : List ℕ). bytes ++ (further (third ∷ []) ++ further rest)) (sym (append-assoc (decimal first) (further (second ∷ [])) (further between)))
+    ∙ sym (append-assoc (decimal first ++ further (second ∷ []) ++ further between) (further (third ∷ [])) (further rest)))
+
+-- four fields after the first, one by one
+pub further-four : (a b c d : ℕ) → further (a ∷ b ∷ c ∷ d ∷ []) ≡ further (a ∷ []) ++ further (b ∷ []) ++ further (c ∷ []) ++ further (d ∷ [])
+further-four a b c d =
+    further-append (a ∷ b ∷ c ∷ []) (d ∷ [])
+    ∙ ap (λ (bytes : List ℕ). bytes ++ further (d ∷ [])) (further-append (a ∷ b ∷ []) (c ∷ []) ∙ ap (λ (bytes : List ℕ). bytes ++ further (c ∷ [])) (further-append (a ∷ []) (b ∷ [])))
 
 -- the same of lengths
 pub length-one : (n : ℕ) → length (line (n ∷ [])) ≡ length (decimal n) + 1
@@ -71,13 +80,17 @@ pub length-two : (first second : ℕ) → length (line (first ∷ second ∷ [])
 length-two first second =
     rw (line-two first second, length-append (decimal first ++ further (second ∷ [])) (newline ∷ []), length-append (decimal first) (further (second ∷ []))) refl
 
-pub length-many : (first second third : ℕ) (rest : List ℕ) → length (line (first ∷ second ∷ third ∷ rest)) ≡ length (decimal first) + length (further (second ∷ [])) + length (further (third ∷ [])) + length (further rest) + 1
-length-many first second third rest =
+pub length-four : (a b c d : ℕ) → length (further (a ∷ b ∷ c ∷ d ∷ [])) ≡ length (further (a ∷ [])) + length (further (b ∷ [])) + length (further (c ∷ [])) + length (further (d ∷ []))
+length-four a b c d = omega (arith, further-length (a ∷ b ∷ c ∷ []) (d ∷ []), further-length (a ∷ b ∷ []) (c ∷ []), further-length (a ∷ []) (b ∷ []))
+
+pub length-many : (first second : ℕ) (between : List ℕ) (third : ℕ) (rest : List ℕ) → length (line (first ∷ second ∷ (between ++ (third ∷ rest)))) ≡ length (decimal first) + length (further (second ∷ [])) + length (further between) + length (further (third ∷ [])) + length (further rest) + 1
+length-many first second between third rest =
     rw (
-      line-more first second third rest,
-      length-append (decimal first ++ further (second ∷ []) ++ further (third ∷ []) ++ further rest) (newline ∷ []),
-      length-append (decimal first ++ further (second ∷ []) ++ further (third ∷ [])) (further rest),
-      length-append (decimal first ++ further (second ∷ [])) (further (third ∷ [])),
+      line-more first second between third rest,
+      length-append (decimal first ++ further (second ∷ []) ++ further between ++ further (third ∷ []) ++ further rest) (newline ∷ []),
+      length-append (decimal first ++ further (second ∷ []) ++ further between ++ further (third ∷ [])) (further rest),
+      length-append (decimal first ++ further (second ∷ []) ++ further between) (further (third ∷ [])),
+      length-append (decimal first ++ further (second ∷ [])) (further between),
       length-append (decimal first) (further (second ∷ [])),
     )
     refl

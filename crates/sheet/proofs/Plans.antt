@@ -17,9 +17,11 @@ use Rattle.search.specs.declared.Routed.{Routed}
 use Rattle.search.specs.declared.Routed.the-variants.{Done as RouteDone, Refused as RouteRefused}
 use Rattle.search.specs.Tests.{bothNodes}
 use Rattle.search.proofs.RouteRoom.{node-leaves}
+use Rattle.search.proofs.RouteAccounted.{route-costed}
 use Rattle.sheet.specs.declared.Sheeted.the-variants.{Line}
-use Rattle.sheet.specs.Sheet.{beforeBook, originOf, destinationOf, bookOf, Planned, refused, no-walk, done, asked, longestLine, Sheet, printed}
+use Rattle.sheet.specs.Sheet.{beforeBook, originOf, destinationOf, bookOf, routeFields, fieldsOf, Planned, refused, no-walk, done, asked, longestLine, Sheet, printed}
 use Rattle.sheet.specs.steps.Planning.{Found, refused as found-refused, no-walk as found-none, done as found-route}
+use Rattle.sheet.specs.steps.Routes.{splitIn, askedFields}
 use Rattle.sheet.specs.steps.Asking.{LinePut}
 
 -- the fields of a refusal
@@ -64,8 +66,15 @@ module _ (book : List ℕ) (r s : ℕ) (buffer : List ℕ) (answer : Routed) (af
         front = ap length links-same ∙ same;
       }
 
-pub led-planned : {book : List ℕ} {r s : ℕ} {after : List ℕ} {cost count : ℕ} → Led book r s after cost count → Planned book r s (0 ∷ cost ∷ length (take count after) ∷ take count after)
-led-planned {after = after} {count = count} led = done (led .counts) (led .passed) (take count after) (led .route) (ap (λ (n : ℕ). 0 ∷ n ∷ length (take count after) ∷ take count after) (led .costs))
+-- what is asked for the route are its own figures
+module _ {book : List ℕ} {r s : ℕ} {after : List ℕ} {cost count : ℕ} (led : Led book r s after cost count) where
+  pub led-fields : askedFields book r cost (take count after) ≡ routeFields (viewOf book (led .counts)) (take count after)
+  led-fields =
+      let asked = route-costed book r s (led .counts) (led .passed) (take count after) (led .route) in
+      λ i. fieldsOf (led .costs i) (splitIn (asked i)) (take count after)
+
+  pub led-planned : Planned book r s (askedFields book r cost (take count after))
+  led-planned = done (led .counts) (led .passed) (take count after) (led .route) led-fields
 
 -- the line that stands in the text is the input's own
 pub line-said : (input text after : List ℕ) (end : ℕ) (book : List ℕ) (r s : ℕ) → longestLine ≤ length text → beforeBook ≤ length input → book ≡ bookOf input → r ≡ originOf input → s ≡ destinationOf input → LinePut book r s text after end

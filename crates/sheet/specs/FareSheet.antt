@@ -9,7 +9,6 @@ use Rattle.book.specs.declared.Counts.{Counts}
 use Rattle.book.specs.declared.Checked.the-variants.{Good}
 use Rattle.book.specs.Number.{numberAt}
 use Rattle.walk.specs.View.{upTo, viewOf}
-use Rattle.walk.specs.Walks.{costOf}
 use Rattle.walk.specs.Labels.{Route}
 use Rattle.search.specs.Tests.{bothNodes}
 use Rattle.fare.specs.declared.Terms.{Terms}
@@ -19,7 +18,7 @@ use Rattle.fare.specs.Fare.{fareOf}
 use Rattle.sheet.specs.declared.Sheeted.{Sheeted}
 use Rattle.sheet.specs.declared.Sheeted.the-variants.{Line, NoRoom}
 use Rattle.sheet.specs.Line.{line}
-use Rattle.sheet.specs.Sheet.{originOf, destinationOf, Planned}
+use Rattle.sheet.specs.Sheet.{originOf, destinationOf, routeFields, Planned}
 
 -- a number of four bytes, low byte first
 unfoldable pub longAt : List ℕ → ℕ → ℕ
@@ -61,7 +60,7 @@ pub data FarePlanned (book : List ℕ) (r s : ℕ) (table : List ℕ) (terms : T
       → bytesGood counts table terms ≡ false → lines ≡ (17 ∷ 0 ∷ []) ∷ [] → FarePlanned book r s table terms lines
   done : (counts : Counts) → bothNodes book r s ≡ Good counts → (links : List ℕ) → Route (viewOf book counts) r s links
       → bytesGood counts table terms ≡ true
-      → lines ≡ (0 ∷ costOf (viewOf book counts) links ∷ length links ∷ links) ∷ (fareOf (faresOf (viewOf book counts) (entriesOf table) terms) links .0 ∷ []) ∷ []
+      → lines ≡ routeFields (viewOf book counts) links ∷ (fareOf (faresOf (viewOf book counts) (entriesOf table) terms) links .0 ∷ []) ∷ []
       → FarePlanned book r s table terms lines
 
 -- the lines for an input: fewer than 20 bytes print 1 and 0
@@ -76,7 +75,7 @@ textOf (fields ∷ rest) = line fields ++ textOf rest
 
 -- the longest line, then a fare of 14 digits with its newline
 abbrev pub longestText : ℕ
-longestText = 20517
+longestText = 20557
 
 -- what a fare sheet answers, and leaves in the text that it was lent: a text shorter than the longest is left as it was
 pub data FareSheet (input text : List ℕ) (answer : Sheeted) (after : List ℕ) : Type 0 where

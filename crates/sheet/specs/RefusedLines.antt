@@ -13,9 +13,18 @@ use Rattle.sheet.specs.FareSheet.{longestText, FareSheet}
 abbrev pub inputA : List ℕ
 inputA = written (0 ∷ 3 ∷ []) ++ bookA
 
--- 0 342 5 0 1 3 1 2, without what ends the line
+-- 0 342, then 230 3 9 100, then 5 0 1 3 1 2, without what ends the line
+abbrev pub costPart : List ℕ
+costPart = 48 ∷ 32 ∷ 51 ∷ 52 ∷ 50 ∷ []
+
+abbrev pub splitPart : List ℕ
+splitPart = 32 ∷ 50 ∷ 51 ∷ 48 ∷ 32 ∷ 51 ∷ 32 ∷ 57 ∷ 32 ∷ 49 ∷ 48 ∷ 48 ∷ []
+
+abbrev pub linksPart : List ℕ
+linksPart = 32 ∷ 53 ∷ 32 ∷ 48 ∷ 32 ∷ 49 ∷ 32 ∷ 51 ∷ 32 ∷ 49 ∷ 32 ∷ 50 ∷ []
+
 abbrev pub routeA : List ℕ
-routeA = 48 ∷ 32 ∷ 51 ∷ 52 ∷ 50 ∷ 32 ∷ 53 ∷ 32 ∷ 48 ∷ 32 ∷ 49 ∷ 32 ∷ 51 ∷ 32 ∷ 49 ∷ 32 ∷ 50 ∷ []
+routeA = costPart ++ splitPart ++ linksPart
 
 abbrev pub lineA : List ℕ
 lineA = routeA ++ (10 ∷ [])
@@ -24,8 +33,15 @@ abbrev pub wrongLines : List (List ℕ)
 wrongLines =
     -- a blank in place of the newline
     (routeA ++ (32 ∷ []))
-    -- 0 0 0: the destination stands for the origin too
-    ∷ (48 ∷ 32 ∷ 48 ∷ 32 ∷ 48 ∷ 10 ∷ [])
+    -- 230 9 3 100: wait and walk exchanged
+    ∷ (costPart ++ (32 ∷ 50 ∷ 51 ∷ 48 ∷ 32 ∷ 57 ∷ 32 ∷ 51 ∷ 32 ∷ 49 ∷ 48 ∷ 48 ∷ []) ++ linksPart ++ (10 ∷ []))
+    -- 230 3 109 0: the carry-over counted as walk
+    ∷ (costPart ++ (32 ∷ 50 ∷ 51 ∷ 48 ∷ 32 ∷ 51 ∷ 32 ∷ 49 ∷ 48 ∷ 57 ∷ 32 ∷ 48 ∷ []) ++ linksPart ++ (10 ∷ []))
+    -- the line without the four figures; the four after the number of links
+    ∷ (costPart ++ linksPart ++ (10 ∷ []))
+    ∷ (costPart ++ (32 ∷ 53 ∷ []) ++ splitPart ++ drop 2 linksPart ++ (10 ∷ []))
+    -- 0 0 0 0 0 0 0: the destination stands for the origin too
+    ∷ (48 ∷ 32 ∷ 48 ∷ 32 ∷ 48 ∷ 32 ∷ 48 ∷ 32 ∷ 48 ∷ 32 ∷ 48 ∷ 32 ∷ 48 ∷ 10 ∷ [])
     -- 14 0: no permitted walk
     ∷ (49 ∷ 52 ∷ 32 ∷ 48 ∷ 10 ∷ [])
     ∷ []

@@ -3,8 +3,8 @@ use super::Sheeted;
 use super::figures::BEFORE_BOOK;
 use super::figures::LONGEST_LINE;
 use super::lines::put_refusal;
-use super::lines::put_route;
 use super::planning::plan;
+use super::routes::print_route;
 use book::Checked;
 use book::Counts;
 use book::NodeNumber;
@@ -34,7 +34,9 @@ fn print_plan(
     let mut links = [0u16; ROUTE_ROOM];
     match plan(book, counts, origin, destination, &mut links) {
         Routed::Refused(found) => put_refusal(text, found.number, found.place),
-        Routed::Done(cost, count) => put_route(text, cost, &links[..count as usize]),
+        Routed::Done(cost, count) => {
+            print_route(book, origin, cost, &links[..count as usize], text)
+        }
     }
 }
 

@@ -6,8 +6,8 @@ use super::figures::LONGEST_TEXT;
 use super::figures::MOST_ENTRIES;
 use super::lines::put_number;
 use super::lines::put_refusal;
-use super::lines::put_route;
 use super::planning::plan;
+use super::routes::print_route;
 use book::Checked;
 use book::Counts;
 use book::NodeNumber;
@@ -89,19 +89,20 @@ fn put_fares(
     counts: Counts,
     bytes: &[u8],
     terms: Terms,
+    origin: NodeNumber,
     cost: u32,
     links: &[u16],
     table: &mut [u32],
     text: &mut [u8],
 ) -> usize
-    requires { ⌜ RouteToFare (now book) counts cost (now links) × ((length (now table) ≡ counts .links + counts .lines) × (longestText ≤ length (now text))) ⌝ }
-    ensures { λ r. ⌜ LinesPut (FareTold (now (book .entry)) counts (now (bytes .entry)) terms cost (now (links .entry))) (now (text .entry)) (now (text .exit)) r ⌝ }
+    requires { ⌜ RouteToFare (now book) counts (origin .0) cost (now links) × ((length (now table) ≡ counts .links + counts .lines) × (longestText ≤ length (now text))) ⌝ }
+    ensures { λ r. ⌜ LinesPut (FareTold (now (book .entry)) counts (now (bytes .entry)) terms (origin .0) cost (now (links .entry))) (now (text .entry)) (now (text .exit)) r ⌝ }
     ensures { λ _. ⌜ now (table .exit) ≡ readInto (now (bytes .entry)) (now (table .entry)) ⌝ }
 {
     if !read_fares(counts, bytes, terms, table) {
         return put_refusal(text, 17, 0);
     }
-    let at = put_route(text, cost, links);
+    let at = print_route(book, origin, cost, links, text);
     let fare = fare_of(book, counts, table, terms, links);
     put_number(text, at, fare.0 as usize)
 }
@@ -112,12 +113,13 @@ fn print_fares(
     counts: Counts,
     bytes: &[u8],
     terms: Terms,
+    origin: NodeNumber,
     cost: u32,
     links: &[u16],
     text: &mut [u8],
 ) -> usize
-    requires { ⌜ RouteToFare (now book) counts cost (now links) × (longestText ≤ length (now text)) ⌝ }
-    ensures { λ r. ⌜ LinesPut (FareTold (now (book .entry)) counts (now (bytes .entry)) terms cost (now (links .entry))) (now (text .entry)) (now (text .exit)) r ⌝ }
+    requires { ⌜ RouteToFare (now book) counts (origin .0) cost (now links) × (longestText ≤ length (now text)) ⌝ }
+    ensures { λ r. ⌜ LinesPut (FareTold (now (book .entry)) counts (now (bytes .entry)) terms (origin .0) cost (now (links .entry))) (now (text .entry)) (now (text .exit)) r ⌝ }
 {
     let count = counts.links + counts.lines;
     let mut table = [0u32; MOST_ENTRIES];
@@ -126,6 +128,7 @@ fn print_fares(
         counts,
         bytes,
         terms,
+        origin,
         cost,
         links,
         &mut table[..count],
@@ -154,6 +157,7 @@ fn print_fare_plan(
             counts,
             bytes,
             terms,
+            origin,
             cost,
             &links[..count as usize],
             text,

@@ -5,6 +5,7 @@ mod faring;
 mod figures;
 mod lines;
 mod planning;
+mod routes;
 
 pub use asking::sheet;
 pub use faring::fare_sheet;

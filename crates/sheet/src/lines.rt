@@ -1,11 +1,13 @@
-// The lines of a sheet: a refusal's number and place, or a route's cost and links.
+// The lines of a sheet: a refusal's number and place, or a route's cost, where its minutes go, and its links.
 use super::decimals::put_byte;
 use super::decimals::put_decimal;
+use walk::Split;
 ghost use mathlib.Core.Path.{_≡_};
 ghost use mathlib.Core.List.{[], _∷_, _++_};
 ghost use Prim.Native.Nat.{_+_, _≤_};
 ghost use lib.ListN.{length, drop};
 ghost use Rattle.sheet.specs.Line.{further, line};
+ghost use Rattle.sheet.specs.Sheet.{fieldsOf};
 ghost use Rattle.sheet.specs.steps.Storing.{Stored};
 
 // What ends every line.
@@ -57,12 +59,24 @@ pub fn put_number(text: &mut [u8], at: usize, n: usize) -> usize
     put_byte(text, next, NEWLINE)
 }
 
-pub fn put_route(text: &mut [u8], cost: u32, links: &[u16]) -> usize
-    requires { ⌜ length (line (0 ∷ cost ∷ length (now links) ∷ now links)) ≤ length (now text) ⌝ }
-    ensures { λ r. ⌜ (now (text .exit) ≡ line (0 ∷ cost ∷ length (now (links .entry)) ∷ now (links .entry)) ++ drop (length (line (0 ∷ cost ∷ length (now (links .entry)) ∷ now (links .entry)))) (now (text .entry))) × (r ≡ length (line (0 ∷ cost ∷ length (now (links .entry)) ∷ now (links .entry)))) ⌝ }
+// The four figures, each after its blank.
+fn put_split(text: &mut [u8], at: usize, split: Split) -> usize
+    requires { ⌜ at + length (further (split .ride ∷ split .wait ∷ split .walk ∷ split .extra ∷ [])) ≤ length (now text) ⌝ }
+    ensures { λ r. ⌜ Stored (now (text .entry)) at (further (split .ride ∷ split .wait ∷ split .walk ∷ split .extra ∷ [])) (now (text .exit)) r ⌝ }
+{
+    let at = put_field(text, at, split.ride as usize);
+    let at = put_field(text, at, split.wait as usize);
+    let at = put_field(text, at, split.walk as usize);
+    put_field(text, at, split.extra as usize)
+}
+
+pub fn put_route(text: &mut [u8], cost: u32, split: Split, links: &[u16]) -> usize
+    requires { ⌜ length (line (fieldsOf cost split (now links))) ≤ length (now text) ⌝ }
+    ensures { λ r. ⌜ (now (text .exit) ≡ line (fieldsOf cost split (now (links .entry))) ++ drop (length (line (fieldsOf cost split (now (links .entry))))) (now (text .entry))) × (r ≡ length (line (fieldsOf cost split (now (links .entry))))) ⌝ }
 {
     let at = put_decimal(text, 0, 0);
     let at = put_field(text, at, cost as usize);
+    let at = put_split(text, at, split);
     let at = put_field(text, at, links.len());
     let at = put_links(text, at, links);
     put_byte(text, at, NEWLINE)

@@ -1,13 +1,14 @@
--- Read backwards, a walk has the same cost and is permitted alike.
+-- Read backwards, a walk has the same four figures, so the same cost, and is permitted alike.
 use Prim.Native.Nat.{ℕ}
 use mathlib.Core.Path.{_≡_, refl, sym, ap, _∙_}
 use mathlib.Core.List.{List, [], _∷_, _++_, map, reverse, reverse-cons}
+use Rattle.walk.specs.declared.Split.{Split}
 use Rattle.walk.specs.View.{View}
 use lib.Dec.{ltb, eqb}
 use mathlib.Core.Bool.{Bool, not}
 use Rattle.book.specs.Entries.{barred}
-use Rattle.walk.specs.Walks.{twos, all, sum, turnOf, turnsOf, between, allowed, seconds, turnWait, firstWait, leaves, permitted, costOf}
-use Rattle.walk.specs.steps.Backwards.{turnsBack, leavesBack, firstWaitBack, permittedBack, costBack}
+use Rattle.walk.specs.Walks.{twos, all, sum, turnOf, turnsOf, between, allowed, seconds, turnWait, firstWait, leaves, permitted, costOf, splitOf, total}
+use Rattle.walk.specs.steps.Backwards.{turnsBack, leavesBack, firstWaitBack, permittedBack, splitBack, costBack}
 use Rattle.walk.proofs.Lists.{sum-reverse, all-reverse, map-reverse, twos-reverse}
 
 module _ (U : View) where
@@ -66,9 +67,9 @@ module _ (U : View) where
         all-twos-reverse (λ p t. allowed (between U p t)) (turnsBack U links),
       )
 
-  pub cost-reverse : (links : List ℕ) → costOf U (reverse links) ≡ costBack U links
-  unfolding costOf costBack
-  cost-reverse links =
+  pub split-reverse : (links : List ℕ) → splitOf U (reverse links) ≡ splitBack U links
+  unfolding splitBack
+  split-reverse links =
       rw (
         turns-reverse links,
         sum-map-reverse (U .ride) links,
@@ -77,3 +78,7 @@ module _ (U : View) where
         sum-map-reverse (U .walk) (turnsBack U links),
         sum-twos-reverse (λ p t. seconds (between U p t)) (turnsBack U links),
       )
+
+  pub cost-reverse : (links : List ℕ) → costOf U (reverse links) ≡ costBack U links
+  unfolding costOf
+  cost-reverse links = ap total (split-reverse links)

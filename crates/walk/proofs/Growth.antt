@@ -1,4 +1,4 @@
--- A walk grows by one link: it stays permitted exactly where the step is, and its cost grows by the step's.
+-- A walk grows by one link: it stays permitted exactly where the step is, and each of its figures grows by the step's.
 use Prim.Native.Nat.{ℕ, _+_}
 use mathlib.Core.Path.{_≡_, refl, sym, ap, _∙_}
 use mathlib.Core.List.{List, [], _∷_, map}
@@ -7,10 +7,12 @@ use native.Mathlib.Omega.{arith}
 use lib.Dec.{ltb, eqb}
 use Rattle.book.specs.Entries.{barred}
 use Rattle.book.proofs.Limits.{both}
+use Rattle.walk.specs.declared.Split.{Split}
 use Rattle.walk.specs.View.{View}
-use Rattle.walk.specs.Walks.{twos, all, sum, turnOf, between, allowed, seconds}
+use Rattle.walk.specs.Walks.{twos, all, sum, turnOf, between, allowed, seconds, total}
 use Rattle.walk.specs.steps.Costs.{linkCost, turnCost}
-use Rattle.walk.specs.steps.Backwards.{turnsBack, leavesBack, permittedBack, costBack, mayCome, extraAfter, stepPermitted, stepCost}
+use Rattle.walk.specs.steps.Splits.{linkSplit, together}
+use Rattle.walk.specs.steps.Backwards.{turnsBack, leavesBack, permittedBack, splitBack, costBack, mayCome, extraAfter, stepPermitted, stepCost, stepSplit}
 
 pub and-true : {a b : Bool} → a ≡ true → b ≡ true → (a && b) ≡ true
 and-true p q = rw (p, q)
@@ -36,6 +38,12 @@ pub record StepTests (U : View) (b a : ℕ) (turns : List ℕ) : Type 0 where
   pub listed : ltb (turnOf U a b) (U .turns) ≡ true
   pub opened : not (eqb (U .walk (turnOf U a b)) barred) ≡ true
   pub follow : mayCome U (turnOf U a b) turns ≡ true
+
+pub same-split : {a b : Split} → a .ride ≡ b .ride → a .wait ≡ b .wait → a .walk ≡ b .walk → a .extra ≡ b .extra → a ≡ b
+same-split ride wait walk extra = λ i. record { ride = ride i; wait = wait i; walk = walk i; extra = extra i }
+
+pub total-together : (a b : Split) → total (together a b) ≡ total a + total b
+total-together a b = omega arith
 
 module _ (U : View) (r : ℕ) where
   pub tests : (links : List ℕ) → permittedBack U r links ≡ true → Tests U r links
@@ -69,6 +77,11 @@ module _ (U : View) (r : ℕ) where
   follow-more : (t : ℕ) (turns : List ℕ) → all (twos (λ t p. allowed (between U p t)) (t ∷ turns)) ≡ (mayCome U t turns && all (twos (λ t p. allowed (between U p t)) turns))
   follow-more t [] = refl
   follow-more t (p ∷ rest) = refl
+
+  -- a step's four figures are its cost
+  pub step-total : (b a : ℕ) (turns : List ℕ) → total (stepSplit U b a turns) ≡ stepCost U b a turns
+  unfolding stepSplit stepCost turnCost
+  step-total b a turns = omega arith
 
   extra-more : (t : ℕ) (turns : List ℕ) → sum (twos (λ t p. seconds (between U p t)) (t ∷ turns)) ≡ extraAfter U t turns + sum (twos (λ t p. seconds (between U p t)) turns)
   extra-more t [] = refl
@@ -106,9 +119,23 @@ module _ (U : View) (r : ℕ) where
         tested (b ∷ a ∷ rest) (grown (tests (a ∷ rest) now) (step-tests b a (turnsBack U (a ∷ rest)) step)))
 
     -- where the turn's second link is the link itself, as in every turn of the table
+    pub split-more : U .second (turnOf U a b) ≡ b → splitBack U (b ∷ a ∷ rest) ≡ together (splitBack U (a ∷ rest)) (stepSplit U b a (turnsBack U (a ∷ rest)))
+    unfolding splitBack stepSplit
+    split-more second =
+        same-split
+        (omega (arith, ap (U .ride) second))
+        (omega arith)
+        (omega arith)
+        (omega (arith, extra-more (turnOf U a b) (turnsBack U (a ∷ rest))))
+
     pub cost-more : U .second (turnOf U a b) ≡ b → costBack U (b ∷ a ∷ rest) ≡ costBack U (a ∷ rest) + stepCost U b a (turnsBack U (a ∷ rest))
-    unfolding costBack stepCost turnCost
-    cost-more second = omega (arith, ap (U .ride) second, extra-more (turnOf U a b) (turnsBack U (a ∷ rest)))
+    cost-more second =
+        omega (
+          arith,
+          ap total (split-more second),
+          total-together (splitBack U (a ∷ rest)) (stepSplit U b a (turnsBack U (a ∷ rest))),
+          step-total b a (turnsBack U (a ∷ rest)),
+        )
 
   pub permitted-one : (l : ℕ) → permittedBack U r (l ∷ []) ≡ (ltb l (U .links) && eqb (U .from l) r)
   unfolding permittedBack
@@ -120,6 +147,9 @@ module _ (U : View) (r : ℕ) where
       by false true = refl
       by false false = refl
 
+  pub split-one : (l : ℕ) → splitBack U (l ∷ []) ≡ linkSplit U l
+  unfolding splitBack
+  split-one l = same-split (omega arith) (omega arith) refl refl
+
   pub cost-one : (l : ℕ) → costBack U (l ∷ []) ≡ linkCost U l
-  unfolding costBack
-  cost-one l = omega arith
+  cost-one l = omega (arith, ap total (split-one l))

@@ -17,6 +17,7 @@ pub mod ChosenLaws
 pub mod LimitedView
 pub mod StepLimit
 pub mod GivenWalks
+pub mod SplitLaws
 pub mod Determined
 pub mod Agreement
 pub mod BetterLaws
@@ -24,5 +25,6 @@ pub mod EveryRow
 pub mod CasesHold
 pub mod SheetsRefused
 pub mod LabelledTrue
+pub mod SplitsRefused
 pub mod ReadOn
 pub mod theory

@@ -1,4 +1,4 @@
--- The step to the turn that one more link makes is permitted, and costs, as the rules for one more link say.
+-- The step to the turn that one more link makes is permitted, and adds to the four figures, as the rules for one more link say.
 use Prim.Native.Nat.{ℕ, _+_, _≤_, _<_}
 use mathlib.Core.Path.{_≡_, refl, sym, _∙_}
 use mathlib.Core.List.{List, [], _∷_}
@@ -14,11 +14,13 @@ use Rattle.walk.specs.declared.Between.{Between}
 use Rattle.walk.specs.declared.Between.the-variants.{Listed, Forbidden, CarriedOver, Nothing}
 use Rattle.walk.specs.declared.Step.{Step}
 use Rattle.walk.specs.declared.Step.the-variants.{Barred, Seconds}
+use Rattle.walk.specs.declared.Split.{Split}
 use Rattle.walk.specs.declared.onward.Advanced.the-variants.{Stopped, Onward}
 use Rattle.walk.specs.View.{View, viewWith, viewOf, walksOf}
 use Rattle.walk.specs.Walks.{turnOf, allowed, seconds}
 use Rattle.walk.specs.steps.Costs.{turnCost}
-use Rattle.walk.specs.steps.Backwards.{mayCome, extraAfter, stepPermitted, stepCost}
+use Rattle.walk.specs.steps.Splits.{turnSplit}
+use Rattle.walk.specs.steps.Backwards.{mayCome, extraAfter, stepPermitted, stepCost, stepSplit}
 use Rattle.walk.specs.steps.Pairs.{openStep, unlessClosed, stepTo}
 use Rattle.walk.specs.steps.Onward.{turnBefore, standsAfter, advanced, oneMore}
 use Rattle.walk.proofs.GoodView.{GoodView, good-view, turn-links}
@@ -29,13 +31,13 @@ abbrev pub stepped : Bool → ℕ → Step
 stepped true seconds = Seconds seconds
 stepped false seconds = Barred
 
-barred-as : (goes : Bool) (turn cost : ℕ) → Barred ≡ stepped goes cost → Stopped ≡ advanced goes turn cost
-barred-as true turn cost e = cc
-barred-as false turn cost e = refl
+barred-as : (goes : Bool) (cost turn : ℕ) (more : Split) → Barred ≡ stepped goes cost → Stopped ≡ advanced goes turn more
+barred-as true cost turn more e = cc
+barred-as false cost turn more e = refl
 
-seconds-as : (goes : Bool) (turn cost more : ℕ) → Seconds more ≡ stepped goes cost → Onward turn more ≡ advanced goes turn cost
-seconds-as true turn cost more e = cc
-seconds-as false turn cost more e = cc
+seconds-as : (goes : Bool) (cost seconds turn : ℕ) (more : Split) → Seconds seconds ≡ stepped goes cost → Onward turn more ≡ advanced goes turn more
+seconds-as true cost seconds turn more e = refl
+seconds-as false cost seconds turn more e = cc
 
 module _ (U : View) where
   may-come : (t : ℕ) (turns : List ℕ) → mayCome U t turns ≡ allowed (standsAfter U t turns)
@@ -96,8 +98,13 @@ module _ (book : List ℕ) (counts : Counts) (walks : List ℕ) (checked : check
 
     pub barred-stops : step ≡ Barred → Stopped ≡ oneMore U before a b
     unfolding oneMore
-    barred-stops e = barred-as (stepPermitted U b a (turnBefore before)) _ _ (sym e ∙ as-stepped)
+    barred-stops e = barred-as (stepPermitted U b a (turnBefore before)) _ _ _ (sym e ∙ as-stepped)
 
-    pub seconds-onward : {more : ℕ} → step ≡ Seconds more → Onward t more ≡ oneMore U before a b
+    -- what the turn adds, by what stands before it
+    as-split : turnSplit U (seconds stands) t ≡ stepSplit U b a (turnBefore before)
+    unfolding stepSplit
+    as-split = rw (stood, turn, extra-comes U (turnOf U a b) (turnBefore before))
+
+    pub seconds-onward : {cost : ℕ} {more : Split} → step ≡ Seconds cost → more ≡ turnSplit U (seconds stands) t → Onward t more ≡ oneMore U before a b
     unfolding oneMore
-    seconds-onward e = rw turn (seconds-as (stepPermitted U b a (turnBefore before)) _ _ _ (sym e ∙ as-stepped))
+    seconds-onward e m = rw (m, as-split, turn) (seconds-as (stepPermitted U b a (turnBefore before)) _ _ _ _ (sym e ∙ as-stepped))

@@ -12,7 +12,7 @@ use Rattle.walk.specs.View.{View}
 use Rattle.walk.specs.Walks.{turnOf, permitted, costOf}
 use Rattle.walk.specs.steps.Costs.{linkCost}
 use Rattle.walk.specs.Labels.{Key, Less, keyOf, Better, Chosen, TurnWalk, LinkWalk, NodeWalk, stays, enters, Entry, startBack, lastOr, linkBack, turnBack, True, chosen, absent}
-use Rattle.walk.specs.steps.Backwards.{turnsBack, permittedBack, costBack}
+use Rattle.walk.specs.steps.Backwards.{turnsBack, permittedBack, splitBack, costBack}
 use Rattle.walk.specs.steps.Net as net-walks
 use Rattle.walk.specs.steps.Net.{Walks, Back, start, via, Entry as Reached, unreached, reached, Walk, one, last, stay, into}
 use Rattle.walk.specs.steps.ViewNet.{net, key, backNumber, figures}
@@ -92,7 +92,7 @@ module _ (U : View) (good : GoodView U) (r : ℕ) where
   key-of links k c l = same-key _ k (cost-reverse U links ∙ c) (length-reverse links ∙ l)
 
   cost-none : costBack U [] ≡ 0
-  unfolding costBack
+  unfolding splitBack
   cost-none = refl
 
   link-back : (links turns : List ℕ) (t : ℕ) → turnsBack U links ≡ t ∷ turns → linkBack U (reverse links) ≡ t

@@ -7,4 +7,5 @@ pub mod Counting
 pub mod Cases
 pub mod RefusedSheets
 pub mod Labelled
+pub mod RefusedSplits
 pub mod steps

@@ -8,6 +8,7 @@ use Rattle.book.specs.Entries.{barred}
 use Rattle.book.specs.FirstBad.{firstBad}
 use Rattle.walk.specs.declared.Between.{Between}
 use Rattle.walk.specs.declared.Between.the-variants.{Listed, Forbidden, CarriedOver, Nothing}
+use Rattle.walk.specs.declared.Split.{Split}
 use Rattle.walk.specs.View.{View}
 
 -- f of each two successive ones of a list
@@ -118,3 +119,10 @@ extraOf U links = sum (twos (λ p t. seconds (between U p t)) (turnsOf U links))
 
 unfoldable pub costOf : View → List ℕ → ℕ
 costOf U links = rideOf U links + waitOf U links + walkOf U links + extraOf U links
+
+-- document 02, request 5: where the minutes go
+abbrev pub splitOf : View → List ℕ → Split
+splitOf U links = record { ride = rideOf U links; wait = waitOf U links; walk = walkOf U links; extra = extraOf U links }
+
+abbrev pub total : Split → ℕ
+total split = split .ride + split .wait + split .walk + split .extra

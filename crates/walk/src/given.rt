@@ -1,11 +1,14 @@
-// The cost of a given walk.
+// The cost of a given walk, and where its minutes go.
 use super::Costed;
+use super::Split;
 use super::figures::MOST_LINKS_GIVEN;
 use super::figures::START_BACK;
 use super::offered::check;
 use super::onward::Advanced;
 use super::onward::advance;
-use super::steps::link_cost;
+use super::splits::added;
+use super::splits::link_split;
+use super::splits::total_of;
 use super::walks::read_walks;
 use book::Checked;
 use book::Counts;
@@ -33,11 +36,11 @@ fn cost_onward(book: &[u8], counts: Counts, walks: &[u16], links: &[u16]) -> Cos
 {
     let mut last = links[0];
     let mut before = START_BACK;
-    let mut cost = link_cost(book, counts, LinkNumber(last));
+    let mut split = link_split(book, counts, LinkNumber(last));
     let mut k = 1;
     'links: loop {
         if links.len() <= k {
-            break 'links Costed::Permitted(cost);
+            break 'links Costed::Permitted(total_of(split), split);
         }
         let link = links[k];
         match advance(
@@ -51,10 +54,10 @@ fn cost_onward(book: &[u8], counts: Counts, walks: &[u16], links: &[u16]) -> Cos
             Advanced::Stopped => {
                 break 'links Costed::NotPermitted;
             }
-            Advanced::Onward(turn, seconds) => {
+            Advanced::Onward(turn, more) => {
                 last = link;
                 before = turn;
-                cost += seconds;
+                split = added(split, more);
                 k += 1;
             }
         }
@@ -74,7 +77,13 @@ fn cost_along(
     ensures { λ r. ⌜ r ≡ walkAnswer (viewOf (now (book .entry)) counts) (origin .0) (now (links .entry)) ⌝ }
 {
     if links.len() == 0 {
-        return Costed::Permitted(0);
+        let none = Split {
+            ride: 0,
+            wait: 0,
+            walk: 0,
+            extra: 0,
+        };
+        return Costed::Permitted(0, none);
     }
     let first = links[0];
     if counts.links <= first as usize {

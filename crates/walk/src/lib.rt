@@ -6,6 +6,7 @@ mod given;
 mod offered;
 mod onward;
 mod pairs;
+mod splits;
 mod steps;
 mod turns;
 mod walks;
@@ -55,10 +56,18 @@ pub enum Step {
     Seconds(u32),
 }
 
-// What asking for the cost of a given walk answers.
+// Where the minutes of a walk go, in seconds.
+pub struct Split {
+    pub ride: u32,
+    pub wait: u32,
+    pub walk: u32,
+    pub extra: u32,
+}
+
+// What asking for the cost of a given walk answers: of a permitted one the cost, and the four figures that make it up.
 pub enum Costed {
     Refused(Refusal),
     TooLong,
     NotPermitted,
-    Permitted(u32),
+    Permitted(u32, Split),
 }

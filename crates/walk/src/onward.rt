@@ -1,8 +1,10 @@
 // One more link of a given walk.
 use super::Between;
+use super::Split;
 use super::Step;
 use super::figures::START_BACK;
 use super::pairs::between_turns;
+use super::splits::turn_split;
 use super::steps::step_to;
 use super::turns::turn_of;
 use book::Counts;
@@ -17,10 +19,10 @@ ghost use Rattle.walk.specs.View.{viewWith};
 ghost use Rattle.walk.specs.Labels.{startBack};
 ghost use Rattle.walk.specs.steps.Onward.{turnBefore, standsAfter, oneMore};
 
-// A walk that one more link was added to: it stops, or it goes on by this turn, which adds these seconds.
+// A walk that one more link was added to: it stops, or it goes on by this turn, which adds these figures.
 pub enum Advanced {
     Stopped,
-    Onward(u16, u32),
+    Onward(u16, Split),
 }
 
 // What stands before a turn, where the turn before it may be none.
@@ -61,6 +63,9 @@ pub fn advance(
     let stands = stands_after(book, counts, walks, before, TurnNumber(turn));
     match step_to(book, counts, walks, stands, TurnNumber(turn)) {
         Step::Barred => Advanced::Stopped,
-        Step::Seconds(seconds) => Advanced::Onward(turn, seconds),
+        Step::Seconds(_) => Advanced::Onward(
+            turn,
+            turn_split(book, counts, walks, stands, TurnNumber(turn)),
+        ),
     }
 }

@@ -21,7 +21,7 @@ ghost use Rattle.walk.specs.steps.Costs.{linkCost, turnCost};
 ghost use Rattle.walk.specs.steps.Pairs.{stepTo};
 
 // Half the headway of its line, rounded up.
-fn link_wait(book: &[u8], counts: Counts, link: LinkNumber) -> u32
+pub fn link_wait(book: &[u8], counts: Counts, link: LinkNumber) -> u32
     requires { ⌜ (checkOf (now book) ≡ Good counts) × (link .0 < counts .links) ⌝ }
     ensures { λ r. ⌜ r ≡ linkWait (viewOf (now (book .entry)) counts) (link .0) ⌝ }
 {
@@ -52,7 +52,7 @@ fn turn_boards(book: &[u8], counts: Counts, walks: &[u16], turn: TurnNumber) -> 
     (0 < walk) | !(line_before == line)
 }
 
-fn turn_wait(book: &[u8], counts: Counts, walks: &[u16], turn: TurnNumber) -> u32
+pub fn turn_wait(book: &[u8], counts: Counts, walks: &[u16], turn: TurnNumber) -> u32
     requires { ⌜ checkOf (now book) ≡ Good counts ⌝ }
     requires { ⌜ (length (now walks) ≡ counts .turns) × (turn .0 < counts .turns) ⌝ }
     ensures { λ r. ⌜ r ≡ turnWait (viewWith (now (book .entry)) counts (now (walks .entry))) (turn .0) ⌝ }

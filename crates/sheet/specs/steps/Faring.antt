@@ -18,6 +18,7 @@ use Rattle.fare.specs.steps.Reckoning.{LinksGiven}
 use Rattle.sheet.specs.Line.{line}
 use Rattle.sheet.specs.Sheet.{longestLine}
 use Rattle.sheet.specs.FareSheet.{entryBytes, entriesOf, bytesGood, textOf}
+use Rattle.sheet.specs.steps.Routes.{askedFields}
 
 -- the entries are read where they take as many bytes as there are; else the table is left as it was
 abbrev pub readInto : List ℕ → List ℕ → List ℕ
@@ -28,21 +29,17 @@ pub record FaresRead (counts : Counts) (bytes : List ℕ) (terms : Terms) (table
   pub tells : answer ≡ bytesGood counts bytes terms
   pub left : after ≡ readInto bytes table
 
--- the fields of a route
-abbrev pub routeFields : ℕ → List ℕ → List ℕ
-routeFields cost links = 0 ∷ cost ∷ length links ∷ links
-
--- few enough links of a good book, whose line is no longer than the longest
-pub record RouteToFare (book : List ℕ) (counts : Counts) (cost : ℕ) (links : List ℕ) : Type 0 where
+-- few enough links of a good book, whose line from r is no longer than the longest
+pub record RouteToFare (book : List ℕ) (counts : Counts) (r cost : ℕ) (links : List ℕ) : Type 0 where
   pub checked : checkOf book ≡ Good counts
   pub given : LinksGiven counts links
   pub few : length links ≤ routeRoom
-  pub fits : length (line (routeFields cost links)) ≤ longestLine
+  pub fits : length (line (askedFields book r cost links)) ≤ longestLine
 
--- the lines for a route of these links: its own and its fare, or 17 and 0
-pub data FareTold (book : List ℕ) (counts : Counts) (table : List ℕ) (terms : Terms) (cost : ℕ) (links : List ℕ) (lines : List (List ℕ)) : Type 0 where
-  bad-fares : bytesGood counts table terms ≡ false → lines ≡ (17 ∷ 0 ∷ []) ∷ [] → FareTold book counts table terms cost links lines
-  done : bytesGood counts table terms ≡ true → lines ≡ routeFields cost links ∷ (fareOf (faresOf (viewOf book counts) (entriesOf table) terms) links .0 ∷ []) ∷ [] → FareTold book counts table terms cost links lines
+-- the lines for a route from r of these links: its own and its fare, or 17 and 0
+pub data FareTold (book : List ℕ) (counts : Counts) (table : List ℕ) (terms : Terms) (r cost : ℕ) (links : List ℕ) (lines : List (List ℕ)) : Type 0 where
+  bad-fares : bytesGood counts table terms ≡ false → lines ≡ (17 ∷ 0 ∷ []) ∷ [] → FareTold book counts table terms r cost links lines
+  done : bytesGood counts table terms ≡ true → lines ≡ askedFields book r cost links ∷ (fareOf (faresOf (viewOf book counts) (entriesOf table) terms) links .0 ∷ []) ∷ [] → FareTold book counts table terms r cost links lines
 
 -- the text begins with lines of which this holds, and which end at `end`
 pub record LinesPut (Told : List (List ℕ) → Type 0) (text after : List ℕ) (end : ℕ) : Type 0 where

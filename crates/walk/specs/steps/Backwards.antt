@@ -4,9 +4,11 @@ use mathlib.Core.List.{List, [], _∷_, map}
 use mathlib.Core.Bool.{Bool, true, not, _&&_}
 use lib.Dec.{ltb, eqb}
 use Rattle.book.specs.Entries.{barred}
+use Rattle.walk.specs.declared.Split.{Split}
 use Rattle.walk.specs.View.{View}
-use Rattle.walk.specs.Walks.{twos, all, sum, turnOf, between, allowed, seconds, linkWait, turnWait}
+use Rattle.walk.specs.Walks.{twos, all, sum, turnOf, between, allowed, seconds, linkWait, turnWait, total}
 use Rattle.walk.specs.steps.Costs.{turnCost}
+use Rattle.walk.specs.steps.Splits.{turnSplit}
 
 abbrev pub turnsBack : View → List ℕ → List ℕ
 turnsBack U links = twos (λ b a. turnOf U a b) links
@@ -31,12 +33,17 @@ firstWaitBack U [] = 0
 firstWaitBack U (l ∷ []) = linkWait U l
 firstWaitBack U (b ∷ a ∷ rest) = firstWaitBack U (a ∷ rest)
 
-unfoldable pub costBack : View → List ℕ → ℕ
-costBack U links =
-    sum (map (U .ride) links)
-    + (firstWaitBack U links + sum (map (turnWait U) (turnsBack U links)))
-    + sum (map (U .walk) (turnsBack U links))
-    + sum (twos (λ t p. seconds (between U p t)) (turnsBack U links))
+unfoldable pub splitBack : View → List ℕ → Split
+splitBack U links =
+    record {
+      ride = sum (map (U .ride) links);
+      wait = firstWaitBack U links + sum (map (turnWait U) (turnsBack U links));
+      walk = sum (map (U .walk) (turnsBack U links));
+      extra = sum (twos (λ t p. seconds (between U p t)) (turnsBack U links));
+    }
+
+abbrev pub costBack : View → List ℕ → ℕ
+costBack U links = total (splitBack U links)
 
 -- turn t after the turns so far, last first: whether it may come, and the extra that it brings
 abbrev pub mayCome : View → ℕ → List ℕ → Bool
@@ -58,3 +65,6 @@ stepPermitted U b a turns =
 
 unfoldable pub stepCost : View → ℕ → ℕ → List ℕ → ℕ
 stepCost U b a turns = extraAfter U (turnOf U a b) turns + turnCost U (turnOf U a b)
+
+unfoldable pub stepSplit : View → ℕ → ℕ → List ℕ → Split
+stepSplit U b a turns = turnSplit U (extraAfter U (turnOf U a b) turns) (turnOf U a b)

@@ -34,13 +34,13 @@ cast-links : tie.Need-cast-links
 cast-links c = search needs
 
 array-share-prefix-links : tie.Need-array-share-prefix-links
-array-share-prefix-links c = led (c .before .before) .within
+array-share-prefix-links c = led (c .before) .within
 
-slice-aggregate-put-route : tie.Need-slice-aggregate-put-route
-slice-aggregate-put-route c = sym (led (c .before .before .before) .front)
+slice-aggregate-print-route : tie.Need-slice-aggregate-print-route
+slice-aggregate-print-route c = sym (led (c .before .before) .front)
 
-put-route-requires : tie.Need-put-route-requires
-put-route-requires c κs = omega (arith, longest-plan _ _ _ _ (led-planned (led (c .before .before .before))), c .before .before .before .before .before .before .before .before .before .before .pre .1)
+print-route-requires : tie.Need-print-route-requires
+print-route-requires c κs = omega (arith, longest-plan _ _ _ _ (led-planned (led (c .before .before .before))), c .before .before .before .before .before .before .before .before .before .before .pre .1)
 
 same-length : tie.Need-same-length
 same-length c = search needs
@@ -52,7 +52,7 @@ same-length-2 : tie.Need-same-length-2
 same-length-2 c = search needs
 
 returns-2 : tie.Need-returns-2
-returns-2 c = record { fields = _; planned = led-planned (led (c .before .before .before .before .before .before)); text-after = c .before .before .put-route .ensures .0; end-at = c .before .before .put-route .ensures .1 }
+returns-2 c = record { fields = _; planned = led-planned (led (c .before .before .before .before .before .before)); text-after = c .before .before .print-route .ensures .0; end-at = c .before .before .print-route .ensures .1 }
 
 pub print-plan-spec : {M : Type 1} → statement M
 print-plan-spec =
@@ -65,8 +65,8 @@ print-plan-spec =
     enum-known-cost
     cast-links
     array-share-prefix-links
-    slice-aggregate-put-route
-    put-route-requires
+    slice-aggregate-print-route
+    print-route-requires
     same-length
     returns
     same-length-2

@@ -32,8 +32,8 @@ returns c =
     let read = c .before .before .before .before .before .before .before .read-fares .ensures in
     (one-put _ (bad-fares (sym (read .tells) ∙ not-true _ (c .before .before .before .before .if1 .taken)) refl) (c .before .before .put-refusal .ensures), read .left)
 
-put-route-requires : tie.Need-put-route-requires
-put-route-requires c κs = search needs
+print-route-requires : tie.Need-print-route-requires
+print-route-requires c κs = search needs
 
 fare-of-requires : tie.Need-fare-of-requires
 fare-of-requires c κs =
@@ -43,7 +43,7 @@ fare-of-requires c κs =
 put-number-requires : tie.Need-put-number-requires
 put-number-requires c κs =
     let start = c .before .before .before .before .before .before .before .before .before .before .before .before .before .before .before .before .before in
-    omega (arith, fare-fits (start .pre .0) (start .pre .1 .0) (c .before .before .before .before .before .before .before .before .before .before .read-fares .ensures) (told (c .before .before .before .before .before .before .before)) _ (c .before .fare-of .ensures), start .pre .0 .fits, start .pre .1 .1, c .before .before .before .before .before .put-route .ensures .1)
+    omega (arith, fare-fits (start .pre .0) (start .pre .1 .0) (c .before .before .before .before .before .before .before .before .before .before .read-fares .ensures) (told (c .before .before .before .before .before .before .before)) _ (c .before .fare-of .ensures), start .pre .0 .fits, start .pre .1 .1, c .before .before .before .before .before .print-route .ensures .1)
 
 same-length-3 : tie.Need-same-length-3
 same-length-3 c = search needs
@@ -57,7 +57,7 @@ returns-2 c =
     let read = c .before .before .before .before .before .before .before .before .before .before .before .before .before .read-fares .ensures in
     let good = told (c .before .before .before .before .before .before .before .before .before .before) in
     let fare = c .before .before .before .before .fare-of .ensures in
-    (two-put _ _ (fare-told (start .pre .1 .0) read good _ fare) (omega (arith, fare-fits (start .pre .0) (start .pre .1 .0) read good _ fare, start .pre .0 .fits, start .pre .1 .1)) (c .before .before .before .before .before .before .before .before .put-route .ensures) (c .before .before .put-number .ensures), read .left)
+    (two-put _ _ (fare-told (start .pre .1 .0) read good _ fare) (omega (arith, fare-fits (start .pre .0) (start .pre .1 .0) read good _ fare, start .pre .0 .fits, start .pre .1 .1)) (c .before .before .before .before .before .before .before .before .print-route .ensures) (c .before .before .put-number .ensures), read .left)
 
 pub put-fares-spec : {M : Type 1} → statement M
 put-fares-spec =
@@ -68,7 +68,7 @@ put-fares-spec =
     same-length
     same-length-2
     returns
-    put-route-requires
+    print-route-requires
     fare-of-requires
     put-number-requires
     same-length-3

@@ -1,4 +1,4 @@
--- So far the walk is permitted, at the cost so far.
+-- So far the walk is permitted, with the figures so far.
 use Prim.Native.Nat.{_-_}
 use borrow.Author.Needs.{needs}
 use denote.Ref.{now}
@@ -14,21 +14,26 @@ use Rattle.walk.proofs.given.cost_onward.Statement.{statement}
 use Rattle.walk.proofs.given.cost_onward.Tie as tie
 
 abbrev Inv-links : tie.InvT-links
-Inv-links book counts walks links last₀ before₀ cost₀ k₀ last before cost k = Along (viewWith book counts walks) (linkFrom (linkTable book counts) (getD links 0 0)) links last before cost k
+Inv-links book counts walks links last₀ before₀ split₀ k₀ last before split k = Along (viewWith book counts walks) (linkFrom (linkTable book counts) (getD links 0 0)) links last before split k
 
 abbrev μ-links : tie.MeasureT-links
-μ-links book counts walks links last₀ before₀ cost₀ k₀ last before cost k = length links - k
+μ-links book counts walks links last₀ before₀ split₀ k₀ last before split k = length links - k
 
 shared-slice-read-last : tie.Need-shared-slice-read-last Inv-links μ-links
 shared-slice-read-last c = search needs
 
-link-cost-requires : tie.Need-link-cost-requires Inv-links μ-links
-link-cost-requires c κs = search needs
+link-split-requires : tie.Need-link-split-requires Inv-links μ-links
+link-split-requires c κs = search needs
 
 links-holds : tie.Need-links-holds Inv-links μ-links
 links-holds c =
     let start = c .before .before .before .before .before in
-    set-out (now (start .args .book)) (start .args .counts) (now (start .args .walks)) (start .pre .0 .0) (start .pre .0 .1) (now (start .args .links)) _ (start .pre .1 .0) (start .pre .1 .2) (c .link-cost .ensures)
+    set-out (now (start .args .book)) (start .args .counts) (now (start .args .walks)) (start .pre .0 .0) (start .pre .0 .1) (now (start .args .links)) _ (start .pre .1 .0) (start .pre .1 .2) (c .link-split .ensures)
+
+total-of-requires : tie.Need-total-of-requires Inv-links μ-links
+total-of-requires c κs =
+    let start = c .before .before .before .before .before .before .before in
+    omega (arith, c .before .links .inv .limit, c .before .links .inv .within, start .pre .1 .1)
 
 mul-link : tie.Need-mul-link Inv-links μ-links
 mul-link c = search needs
@@ -48,8 +53,8 @@ enum-told c = search needs
 enum-known-turn : tie.Need-enum-known-turn Inv-links μ-links
 enum-known-turn c = search needs
 
-add-cost : tie.Need-add-cost Inv-links μ-links
-add-cost c =
+added-requires : tie.Need-added-requires Inv-links μ-links
+added-requires c κs =
     let at = c .before .before .before .before .before .before in
     let start = at .before .before .before .before .before .before in
     let (more, along) = goes-on (now (start .args .book)) (start .args .counts) (now (start .args .walks)) (start .pre .0 .0) (start .pre .0 .1) (now (start .args .links)) _ (at .links .inv) (search needs) refl (c .before .before .before .advance .ensures) (c .before .turn .given .1) in
@@ -63,15 +68,17 @@ links-less c = search needs
 
 links-again : tie.Need-links-again Inv-links μ-links
 links-again c =
-    let at = c .before .before .before .before .before .before in
+    let at = c .before .before .before .before .before .before .before in
     let start = at .before .before .before .before .before .before in
-    goes-on (now (start .args .book)) (start .args .counts) (now (start .args .walks)) (start .pre .0 .0) (start .pre .0 .1) (now (start .args .links)) _ (at .links .inv) (search needs) refl (c .before .before .before .advance .ensures) (c .before .turn .given .1) .1
+    rw (c .added .ensures)
+    (goes-on (now (start .args .book)) (start .args .counts) (now (start .args .walks)) (start .pre .0 .0) (start .pre .0 .1) (now (start .args .links)) _ (at .links .inv) (search needs) refl (c .before .before .before .before .advance .ensures) (c .before .before .turn .given .1) .1)
 
 returns : tie.Need-returns Inv-links μ-links
 returns c =
-    let at = c .before in
+    let at = c .before .before in
     let start = at .before .before .before .before .before .before in
-    arrived (now (start .args .book)) (start .args .counts) (now (start .args .walks)) (start .pre .0 .0) (start .pre .0 .1) (now (start .args .links)) _ (at .links .inv) (c .if1 .taken)
+    rw (c .total-of .ensures)
+    (arrived (now (start .args .book)) (start .args .counts) (now (start .args .walks)) (start .pre .0 .0) (start .pre .0 .1) (now (start .args .links)) _ (at .links .inv) (c .before .if1 .taken))
 
 returns-2 : tie.Need-returns-2 Inv-links μ-links
 returns-2 c =
@@ -86,14 +93,15 @@ cost-onward-spec =
     Inv-links
     μ-links
     shared-slice-read-last
-    link-cost-requires
+    link-split-requires
     links-holds
+    total-of-requires
     mul-link
     shared-slice-read-link
     advance-requires
     enum-told
     enum-known-turn
-    add-cost
+    added-requires
     add-k
     links-less
     links-again

@@ -1,4 +1,4 @@
--- The step to the turn that the link makes says whether the link may come, and what it adds.
+-- The step to the turn that the link makes says whether the link may come, and what stands before it what the link adds.
 use borrow.Author.Needs.{needs}
 use denote.Ref.{now}
 use Rattle.walk.proofs.NextLink.{missing-stops, barred-stops, seconds-onward}
@@ -26,8 +26,11 @@ step-to-requires c κs = search needs
 enum-told : tie.Need-enum-told
 enum-told c = search needs
 
-enum-known-seconds : tie.Need-enum-known-seconds
-enum-known-seconds c = search needs
+enum-told-2 : tie.Need-enum-told-2
+enum-told-2 c = search needs
+
+turn-split-requires : tie.Need-turn-split-requires
+turn-split-requires c κs = search needs
 
 returns-2 : tie.Need-returns-2
 returns-2 c =
@@ -41,7 +44,7 @@ returns-3 c =
     let after = c .before .before .before .before in
     let at = after .before .before .before in
     let start = at .before .before .before in
-    seconds-onward (now (start .args .book)) (start .args .counts) (now (start .args .walks)) (start .pre .0) (start .args .before) (start .args .last .0) (start .args .link .0) (at .turn-of .ensures) (search needs) (after .stands-after .ensures) (c .before .before .before .step-to .ensures) (c .before .seconds .given .1)
+    seconds-onward (now (start .args .book)) (start .args .counts) (now (start .args .walks)) (start .pre .0) (start .args .before) (start .args .last .0) (start .args .link .0) (at .turn-of .ensures) (search needs) (after .stands-after .ensures) (c .before .before .before .step-to .ensures) (c .before .enum-told2 .given .1) (c .turn-split .ensures)
 
 pub advance-spec : {M : Type 1} → statement M
 advance-spec =
@@ -53,6 +56,7 @@ advance-spec =
     stands-after-requires
     step-to-requires
     enum-told
-    enum-known-seconds
+    enum-told-2
+    turn-split-requires
     returns-2
     returns-3)

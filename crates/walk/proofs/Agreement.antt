@@ -6,13 +6,14 @@ use mathlib.Core.List.{List, reverse, reverse-reverse}
 use mathlib.Core.Bool.{_&&_}
 use lib.Dec.{T, eqb}
 use Rattle.walk.specs.View.{View}
-use Rattle.walk.specs.Walks.{between, allowed, seconds, half, linkWait, boarding, paidIf, turnWait}
+use Rattle.walk.specs.Walks.{between, allowed, seconds, half, linkWait, boarding, paidIf, turnWait, total}
 use Rattle.walk.specs.steps.Costs.{linkCost, turnCost}
 use Rattle.walk.specs.Labels.{Key, Less, keyOf, Better, Chosen, Route, Entry, startBack, TrueTurn, TrueLink}
 use Rattle.walk.specs.steps.Net.{Walks, Back}
 use Rattle.walk.specs.steps.ViewNet.{net, key, isOpen, mayFollow}
 use Rattle.walk.proofs.theory.Walks.{below, link-head}
 use Rattle.walk.proofs.theory.SameNets.{Within, WithinNodes, node-in, turn-same, link-same}
+use Rattle.walk.proofs.Growth.{same-split}
 use Rattle.walk.proofs.GoodView.{GoodView}
 use Rattle.walk.proofs.KeyLaws.{laws}
 use Rattle.walk.proofs.TrueEntries.{Matches, node-matches}
@@ -78,7 +79,7 @@ module _ (U other : View) (good : GoodView U) (agree : Agree U other) where
 
   turn-cost : (t : ℕ) → t < U .turns → turnCost U t ≡ turnCost other t
   unfolding turnCost
-  turn-cost t h = ap₂ _+_ (agree .walk t h) (ap₂ _+_ (of-second (U .ride) (other .ride) (agree .ride) t h) (wait-same t h))
+  turn-cost t h = ap total (same-split (of-second (U .ride) (other .ride) (agree .ride) t h) (wait-same t h) (agree .walk t h) refl)
 
   from-same : (t : ℕ) → t < U .turns → U .from (U .first t) ≡ other .from (other .first t)
   from-same = of-first (U .from) (other .from) (agree .from)

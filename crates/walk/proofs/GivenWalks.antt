@@ -20,12 +20,12 @@ use Rattle.walk.specs.View.{View, viewWith, viewOf, walksOf}
 use Rattle.walk.specs.Walks.{turnOf, permitted, costOf, splitOf, total}
 use Rattle.walk.specs.steps.Splits.{linkSplit, together}
 use Rattle.walk.specs.Labels.{startBack}
-use Rattle.walk.specs.steps.Backwards.{turnsBack, permittedBack, splitBack, stepPermitted, stepCost, stepSplit}
+use Rattle.walk.specs.steps.Backwards.{turnsBack, permittedBack, splitBack, stepPermitted, stepSplit}
 use Rattle.walk.specs.steps.Onward.{turnBefore, advanced, oneMore, walkAnswer}
 use Rattle.walk.proofs.theory.Laws.{refuted}
 use Rattle.walk.proofs.Backwards.{permitted-reverse, split-reverse}
 use Rattle.walk.proofs.GoodView.{turn-links}
-use Rattle.walk.proofs.Growth.{and-true, total-together, permitted-more, split-more, permitted-one, split-one, step-tests, step-total}
+use Rattle.walk.proofs.Growth.{and-true, total-together, permitted-more, split-more, permitted-one, split-one, step-tests}
 use Rattle.walk.proofs.ChosenLaws.{Limited}
 use Rattle.walk.proofs.LimitedView.{limited-view}
 use Rattle.walk.proofs.StepLimit.{step-limit}
@@ -172,7 +172,7 @@ module _ (book : List ℕ) (counts : Counts) (walks : List ℕ) (checked : check
           let (goes, which, adds) = onward-says _ _ _ turn more (sym found ∙ e) in
           let step : stepPermitted U b last turns ≡ true = goes-as ∙ goes in
           let added : more ≡ stepSplit U b last turns = adds ∙ sym adds-as in
-          let limit : total more ≤ 46800 = omega (arith, ap total adds, step-total U r b last (turnBefore before), step-limit U limited before (along .listed) b last goes) in
+          let limit : total more ≤ 46800 = omega (arith, ap total adds, step-limit U limited before (along .listed) b last goes) in
           let tested = step-tests U r b last turns step in
           let listed : turnOf U last b < counts .turns = ltb-true _ _ (tested .listed) in
           let known : turn < counts .turns = omega (arith, which) in (

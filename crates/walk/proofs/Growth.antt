@@ -78,10 +78,10 @@ module _ (U : View) (r : ℕ) where
   follow-more t [] = refl
   follow-more t (p ∷ rest) = refl
 
-  -- a step's four figures are its cost
-  pub step-total : (b a : ℕ) (turns : List ℕ) → total (stepSplit U b a turns) ≡ stepCost U b a turns
-  unfolding stepSplit stepCost turnCost
-  step-total b a turns = omega arith
+  -- a step costs its extra and what its turn adds
+  pub step-cost : (b a : ℕ) (turns : List ℕ) → stepCost U b a turns ≡ extraAfter U (turnOf U a b) turns + turnCost U (turnOf U a b)
+  unfolding stepSplit turnCost
+  step-cost b a turns = omega arith
 
   extra-more : (t : ℕ) (turns : List ℕ) → sum (twos (λ t p. seconds (between U p t)) (t ∷ turns)) ≡ extraAfter U t turns + sum (twos (λ t p. seconds (between U p t)) turns)
   extra-more t [] = refl
@@ -130,12 +130,7 @@ module _ (U : View) (r : ℕ) where
 
     pub cost-more : U .second (turnOf U a b) ≡ b → costBack U (b ∷ a ∷ rest) ≡ costBack U (a ∷ rest) + stepCost U b a (turnsBack U (a ∷ rest))
     cost-more second =
-        omega (
-          arith,
-          ap total (split-more second),
-          total-together (splitBack U (a ∷ rest)) (stepSplit U b a (turnsBack U (a ∷ rest))),
-          step-total b a (turnsBack U (a ∷ rest)),
-        )
+        ap total (split-more second) ∙ total-together (splitBack U (a ∷ rest)) (stepSplit U b a (turnsBack U (a ∷ rest)))
 
   pub permitted-one : (l : ℕ) → permittedBack U r (l ∷ []) ≡ (ltb l (U .links) && eqb (U .from l) r)
   unfolding permittedBack
@@ -152,4 +147,4 @@ module _ (U : View) (r : ℕ) where
   split-one l = same-split (omega arith) (omega arith) refl refl
 
   pub cost-one : (l : ℕ) → costBack U (l ∷ []) ≡ linkCost U l
-  cost-one l = omega (arith, ap total (split-one l))
+  cost-one l = ap total (split-one l)

@@ -15,7 +15,7 @@ use Rattle.walk.specs.Labels.{Key}
 use Rattle.walk.specs.steps.Backwards.{turnsBack, permittedBack, costBack, mayCome, extraAfter, stepPermitted, stepCost}
 use Rattle.walk.specs.steps.Net.{Back, start, via, Walk, two, more}
 use Rattle.walk.specs.steps.ViewNet.{net, key, isOpen, mayFollow}
-use Rattle.walk.proofs.Growth.{and-true, StepTests, step-tests, step-tested, permitted-more, cost-more, permitted-one, cost-one}
+use Rattle.walk.proofs.Growth.{and-true, StepTests, step-tests, step-tested, permitted-more, cost-more, permitted-one, cost-one, step-cost}
 use Rattle.walk.proofs.GoodView.{GoodView, turn-of, turn-links}
 
 pub holds : (test : Bool) → T test → test ≡ true
@@ -57,10 +57,9 @@ module _ (U : View) (good : GoodView U) (r : ℕ) where
 
   turn-cost : (t a : ℕ) (turns : List ℕ) → t < U .turns → a ≡ U .first t
       → stepCost U (U .second t) a turns ≡ extraAfter U t turns + turnCost U t
-  unfolding stepCost
   turn-cost t a turns h e =
       let same : turnOf U a (U .second t) ≡ t = ap (λ (l : ℕ). turnOf U l (U .second t)) e ∙ turn-of U good t h in
-      rw same
+      step-cost U r (U .second t) a turns ∙ ap (λ (turn : ℕ). extraAfter U turn turns + turnCost U turn) same
 
   built-two : (t : ℕ) → t < U .turns → (isOpen U t && eqb (U .from (U .first t)) r) ≡ true
       → Built t (U .second t ∷ U .first t ∷ []) (key (linkCost U (U .first t) + turnCost U t) 2) start

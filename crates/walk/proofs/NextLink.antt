@@ -24,7 +24,7 @@ use Rattle.walk.specs.steps.Backwards.{mayCome, extraAfter, stepPermitte
 use Rattle.walk.specs.steps.Pairs.{openStep, unlessClosed, stepTo}
 use Rattle.walk.specs.steps.Onward.{turnBefore, standsAfter, advanced, oneMore}
 use Rattle.walk.proofs.GoodView.{GoodView, good-view, turn-links}
-use Rattle.walk.proofs.Growth.{step-tests}
+use Rattle.walk.proofs.Growth.{step-tests, step-cost}
 use Rattle.walk.proofs.TurnRuns.{same-turn-of}
 
 abbrev pub stepped : Bool → ℕ → Step
@@ -57,13 +57,13 @@ module _ (U : View) where
 
   module _ (good : GoodView U) (a b : ℕ) (turns : List ℕ) where
     step-as : turnOf U a b < U .turns → stepTo U (standsAfter U (turnOf U a b) turns) (turnOf U a b) ≡ stepped (stepPermitted U b a turns) (stepCost U b a turns)
-    unfolding stepTo stepPermitted stepCost
+    unfolding stepTo stepPermitted
     step-as h =
         let (first, second) = turn-links U a b h in
         let exists : b < U .links = rw second at (good .second (turnOf U a b) h) in
         let meets : U .to a ≡ U .from b = rw (first, second) at (good .meet (turnOf U a b) h) in
         open-step (turnOf U a b) (eqb (U .walk (turnOf U a b)) barred) (standsAfter U (turnOf U a b) turns)
-        ∙ rw (lt-ltb b (U .links) exists, eq-eqb (U .to a) (U .from b) meets, lt-ltb (turnOf U a b) (U .turns) h, may-come (turnOf U a b) turns, extra-comes (turnOf U a b) turns)
+        ∙ rw (lt-ltb b (U .links) exists, eq-eqb (U .to a) (U .from b) meets, lt-ltb (turnOf U a b) (U .turns) h, may-come (turnOf U a b) turns, step-cost U 0 b a turns, extra-comes (turnOf U a b) turns)
 
     no-turn : U .turns ≤ turnOf U a b → stepPermitted U b a turns ≡ false
     no-turn h = by (stepPermitted U b a turns) refl

@@ -10,7 +10,7 @@ use Rattle.walk.specs.Walks.{turnOf}
 use Rattle.walk.specs.Labels.{startBack}
 use Rattle.walk.specs.steps.Backwards.{mayCome, extraAfter, stepPermitted, stepCost}
 use Rattle.walk.specs.steps.Onward.{noneOr, turnBefore}
-use Rattle.walk.proofs.Growth.{step-tests}
+use Rattle.walk.proofs.Growth.{step-tests, step-cost}
 use Rattle.walk.proofs.ChosenLaws.{Limited}
 
 module _ (U : View) (limited : Limited U) (before : ℕ) (listed : (before ≡ startBack → ⊥) → before < U .turns) where
@@ -23,8 +23,7 @@ module _ (U : View) (limited : Limited U) (before : ℕ) (listed : (before ≡ s
       by false e m = limited .extra before t (listed (eqb-false _ _ e)) h m
 
   pub step-limit : (b a : ℕ) → stepPermitted U b a (turnBefore before) ≡ true → stepCost U b a (turnBefore before) ≤ 46800
-  unfolding stepCost
   step-limit b a h =
       let s = step-tests U 0 b a (turnBefore before) h in
       let within : turnOf U a b < U .turns = ltb-true _ _ (s .listed) in
-      omega (arith, limited .turn (turnOf U a b) within (s .opened), extra-limit (turnOf U a b) within (s .follow))
+      omega (arith, step-cost U 0 b a (turnBefore before), limited .turn (turnOf U a b) within (s .opened), extra-limit (turnOf U a b) within (s .follow))

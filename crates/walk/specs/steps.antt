@@ -1,5 +1,5 @@
-pub mod Costs
 pub mod Splits
+pub mod Costs
 pub mod Backwards
 pub mod Net
 pub mod ViewNet

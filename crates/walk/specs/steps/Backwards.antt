@@ -7,7 +7,6 @@ use Rattle.book.specs.Entries.{barred}
 use Rattle.walk.specs.declared.Split.{Split}
 use Rattle.walk.specs.View.{View}
 use Rattle.walk.specs.Walks.{twos, all, sum, turnOf, between, allowed, seconds, linkWait, turnWait, total}
-use Rattle.walk.specs.steps.Costs.{turnCost}
 use Rattle.walk.specs.steps.Splits.{turnSplit}
 
 abbrev pub turnsBack : View → List ℕ → List ℕ
@@ -63,8 +62,8 @@ stepPermitted U b a turns =
     && not (eqb (U .walk (turnOf U a b)) barred)
     && mayCome U (turnOf U a b) turns
 
-unfoldable pub stepCost : View → ℕ → ℕ → List ℕ → ℕ
-stepCost U b a turns = extraAfter U (turnOf U a b) turns + turnCost U (turnOf U a b)
-
 unfoldable pub stepSplit : View → ℕ → ℕ → List ℕ → Split
 stepSplit U b a turns = turnSplit U (extraAfter U (turnOf U a b) turns) (turnOf U a b)
+
+abbrev pub stepCost : View → ℕ → ℕ → List ℕ → ℕ
+stepCost U b a turns = total (stepSplit U b a turns)

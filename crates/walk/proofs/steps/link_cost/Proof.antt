@@ -22,7 +22,7 @@ add-result c =
     omega (arith, c .link-wait .ensures, c .before .link-ride .ensures, link-limit (now (start .args .book)) (start .args .counts) [] (start .pre .0) (start .args .link .0) (start .pre .1))
 
 returns : tie.Need-returns
-returns c = rw (c .link-wait .ensures, c .before .link-ride .ensures)
+returns c = rw (c .link-wait .ensures, c .before .link-ride .ensures) (omega arith)
 
 pub link-cost-spec : {M : Type 1} → statement M
 link-cost-spec =

@@ -54,7 +54,7 @@ add-result-2 c =
 
 returns : tie.Need-returns
 unfolding turnCost
-returns c = rw (c .turn-wait .ensures, c .before .link-ride .ensures, c .before .before .turn-second .ensures)
+returns c = rw (c .turn-wait .ensures, c .before .link-ride .ensures, c .before .before .turn-second .ensures) (omega arith)
 
 pub turn-cost-spec : {M : Type 1} → statement M
 turn-cost-spec =

@@ -18,7 +18,7 @@ LINKS_DRAWN = [0, 2, 3, 4, 5, 6, 6, 6, 6, 6]
 HEADWAYS = [0, 0, 1, 1, 2, 3, 3, 3, 3, 4]  # mostly above 0, so that a boarding shows, and often the same for two lines
 RIDES = [0, 0, 0, 0, 0, 0, 1, 1, 2, 2]
 WALKS = [0, 0, 0, 0, 1, 1, 1, 2, 3, CLOSED]
-EXTRAS = [0, 0, 1, 2, FORBIDDEN, FORBIDDEN, FORBIDDEN, FORBIDDEN, FORBIDDEN, FORBIDDEN]
+EXTRAS = [0, 0, 1, 1, 2, 3, FORBIDDEN, FORBIDDEN, FORBIDDEN, FORBIDDEN]
 TURNS_DRAWN = [5, 5, 5, 5, 5, 12, 12, 12, 12, 12]
 NEW_WALKS = [0, 0, 1, 1, 2, 3600, 3601, 65534, CLOSED, CLOSED]
 

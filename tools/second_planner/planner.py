@@ -333,8 +333,7 @@ def cost_of_walk(book, origin, walk):
         return ("too long",)
     if not permitted(read, origin, walk):
         return ("not permitted",)
-    split = split_of(read, walk)
-    return "permitted", sum(split), *split
+    return "permitted", cost_step_by_step(read, walk), *split_of(read, walk)
 
 # The fare (document 02, request 3)
 

@@ -318,7 +318,8 @@ def run_of_edits(generator, script, origin, edits, show):
     tables = planner.tables(script.desk.book)
     for turn in sorted(edited):
         first, second, _ = tables.turns[turn]
-        script.ask("cost", tables.links[first].from_node, first, second)  # by the walk that stands in the book
+        onward = [after.second for after in tables.turns if after.first == second][:1]  # so that an extra can show
+        script.ask("cost", tables.links[first].from_node, first, second, *onward)  # by the walk that stands in the book
 
 
 def ask_edits(generator, script):

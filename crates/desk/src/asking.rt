@@ -15,8 +15,7 @@ use search::cost_of;
 use search::route;
 use search::route_given_back;
 use search::search;
-use walk::Costed;
-use walk::Split;
+use search::split_in;
 
 // A question with its numbers and the fares' terms.
 pub struct Asked {
@@ -30,7 +29,7 @@ pub struct Asked {
 // The most figures that an answer has beside number and place: those of a route.
 pub const MOST_FIGURES: usize = 6;
 
-// The figures that a question's answer has by document 01: number and place, so many others, and so many links of the route buffer after them.
+// The figures that a question's answer has by documents 01 and 02: number and place, so many others, and so many links of the route buffer after them.
 pub struct Told {
     pub number: u8,
     pub place: usize,
@@ -50,24 +49,11 @@ fn of_searched(answer: Searched) -> Told {
     }
 }
 
-// Where the minutes of a walk go, asked as those of a given one.
-fn split_of(book: &[u8], origin: NodeNumber, links: &[u16]) -> Split {
-    match cost_of(book, origin, links) {
-        Costed::Permitted(_, split) => split,
-        _ => Split {
-            ride: 0,
-            wait: 0,
-            walk: 0,
-            extra: 0,
-        },
-    }
-}
-
-// Cost, where the minutes go, and number of links; the links follow.
+// Cost, where the minutes go, and number of links; the links follow. A refused one has none, and no links have no minutes.
 fn of_routed(answer: Routed, book: &[u8], origin: NodeNumber, links: &[u16]) -> Told {
     let found = route_given_back(answer);
     let end = within_numbers(found.links as usize, links);
-    let split = split_of(book, origin, &links[..end]);
+    let split = split_in(cost_of(book, origin, &links[..end]));
     Told {
         number: found.number,
         place: found.place,

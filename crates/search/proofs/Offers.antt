@@ -23,11 +23,10 @@ use Rattle.walk.specs.View.{View, viewWith, foundOr}
 use Rattle.walk.specs.Walks.{lookUp, listedAs, carriedIf, between, allowed, seconds}
 use Rattle.walk.specs.steps.Costs.{turnCost}
 use Rattle.walk.specs.Labels.{Entry, Table, entryAt}
-use Rattle.walk.specs.steps.Pairs.{listedAt, stepTo, secondsMore}
+use Rattle.walk.specs.steps.Pairs.{listedAt, stepped, stepTo, secondsMore}
 use Rattle.walk.specs.steps.ViewNet.{isOpen}
 use Rattle.walk.proofs.GoodView.{turn-limit}
 use Rattle.walk.proofs.LimitedView.{extra-limit as any-extra}
-use Rattle.walk.proofs.NextLink.{stepped, open-step}
 use Rattle.walk.proofs.theory.Laws.{clash}
 use Rattle.search.specs.steps.Tables.{Sized}
 use Rattle.search.specs.steps.Passing.{passedBy, passedTo, offeredIf}
@@ -35,7 +34,7 @@ use Rattle.search.proofs.TableLaws.{offered-sized, offered-at, offered-
 
 pub step-as : (U : View) (stands : Between) (t : ℕ) → stepTo U stands t ≡ stepped (isOpen U t && allowed stands) (secondsMore U (seconds stands) t)
 unfolding stepTo
-step-as U stands t = open-step U t (eqb (U .walk t) barred) stands
+step-as U stands t = refl
 
 -- the seconds of a step that is not barred
 seconds-of : (goes : Bool) (cost : ℕ) {more : ℕ} → stepped goes cost ≡ Seconds more → (goes ≡ true) × (more ≡ cost)

@@ -12,9 +12,8 @@ use Rattle.walk.specs.declared.Step.the-variants.{Barred, Seconds}
 use Rattle.walk.specs.View.{View}
 use Rattle.walk.specs.Walks.{between, allowed, seconds}
 use Rattle.walk.specs.Labels.{Entry, Table, entryAt}
-use Rattle.walk.specs.steps.Pairs.{stepTo, secondsMore}
+use Rattle.walk.specs.steps.Pairs.{stepped, stepTo, secondsMore}
 use Rattle.walk.specs.steps.ViewNet.{isOpen, mayFollow}
-use Rattle.walk.proofs.NextLink.{stepped}
 use Rattle.search.specs.steps.Tables.{standsAs, goesAhead, ownLabel}
 use Rattle.search.specs.steps.Passing.{onwardTo}
 use Rattle.search.specs.steps.Judging.{limited, overtakenBy, overtaken, steppedBy, backLeads, reachedStands, everyBelow}

@@ -30,6 +30,7 @@ pub use offered::cost_of;
 pub use offered::link_line;
 pub use offered::number_at;
 pub use offered::seconds_good;
+pub use offered::split_in;
 pub use offered::write_walk;
 pub use routing::route;
 pub use routing::route_given_back;

@@ -5,6 +5,7 @@ use book::LinkNumber;
 use book::NodeNumber;
 use book::TurnNumber;
 use walk::Costed;
+use walk::Split;
 ghost use mathlib.Core.Path.{_≡_};
 ghost use Prim.Native.Nat.{_+_, _<_};
 ghost use lib.ListN.{length};
@@ -15,6 +16,7 @@ ghost use Rattle.book.specs.Entries.{linkLine, secondsGood};
 ghost use Rattle.book.specs.Check.{checkOf};
 ghost use Rattle.book.specs.Changes.{withWalk};
 ghost use Rattle.walk.specs.Given.{costOfWalk};
+ghost use Rattle.walk.specs.steps.Splits.{splitIn};
 
 pub fn check(book: &[u8]) -> Checked
     ensures { λ r. ⌜ r ≡ checkOf (now (book .entry)) ⌝ }
@@ -53,4 +55,10 @@ pub fn cost_of(book: &[u8], origin: NodeNumber, links: &[u16]) -> Costed
     ensures { λ r. ⌜ r ≡ costOfWalk (now (book .entry)) (origin .0) (now (links .entry)) ⌝ }
 {
     walk::cost_of(book, origin, links)
+}
+
+pub fn split_in(costed: Costed) -> Split
+    ensures { λ r. ⌜ r ≡ splitIn costed ⌝ }
+{
+    walk::split_in(costed)
 }

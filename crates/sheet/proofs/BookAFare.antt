@@ -7,6 +7,7 @@ use Rattle.book.specs.Number.{numberAt}
 use Rattle.book.specs.FirstBad.{firstBadFrom}
 use Rattle.book.specs.BookA.{countsA}
 use Rattle.walk.specs.View.{upTo}
+use Rattle.walk.specs.RefusedSplits.{loopA}
 use Rattle.search.proofs.RoutesRefused.{route-to-three}
 use Rattle.fare.specs.Amounts.{startedSteps}
 use Rattle.fare.specs.Fares.{tableGood, termsGood, faresGood}
@@ -14,11 +15,11 @@ use Rattle.fare.specs.Fare.{fareOf}
 use Rattle.sheet.specs.Line.{decimalIn, decimal, further, line}
 use Rattle.sheet.specs.FareSheet.{longAt, bytesGood, done, FareSays, asked, textOf}
 use Rattle.sheet.specs.RefusedLines.{fareInputA, textA}
-use Rattle.sheet.proofs.BookALine.{linksA, fieldsA, nodes-a, fields-a}
+use Rattle.sheet.proofs.BookALine.{fieldsA, nodes-a, fields-a}
 
 pub fare-says-a : FareSays fareInputA (fieldsA ∷ (1000 ∷ []) ∷ [])
 unfolding numberAt longAt upTo bytesGood faresGood tableGood termsGood fareOf startedSteps firstBadFrom
-fare-says-a = asked (omega arith) (done countsA nodes-a linksA (route-to-three .route) refl (ap (λ (fields : List ℕ). fields ∷ (1000 ∷ []) ∷ []) fields-a))
+fare-says-a = asked (omega arith) (done countsA nodes-a loopA (route-to-three .route) refl (ap (λ (fields : List ℕ). fields ∷ (1000 ∷ []) ∷ []) fields-a))
 
 pub text-a : textOf (fieldsA ∷ (1000 ∷ []) ∷ []) ≡ textA
 unfolding textOf line further decimal decimalIn

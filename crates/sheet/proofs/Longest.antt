@@ -14,7 +14,7 @@ use Rattle.book.proofs.Limits.{both}
 use Rattle.book.proofs.GoodBook.{good-book}
 use Rattle.walk.specs.declared.Split.{Split}
 use Rattle.walk.specs.View.{viewOf}
-use Rattle.walk.specs.Walks.{all, costOf, splitOf, total}
+use Rattle.walk.specs.Walks.{all, costOf, splitOf, total, figuresOf}
 use Rattle.walk.specs.Labels.{Route}
 use Rattle.walk.proofs.SplitLaws.{adds-up}
 use Rattle.search.proofs.RouteRoom.{room-serves, links-exist}
@@ -37,7 +37,7 @@ links-bounded count h (l ∷ rest) e =
     omega (arith, length-append (decimal l) (further rest), length-below 3 l (omega (arith, ltb-true l count here)), links-bounded count h rest later)
 
 -- figures of nine digits
-split-below : (split : Split) → total split < 10 ^ 9 → length (further (split .ride ∷ split .wait ∷ split .walk ∷ split .extra ∷ [])) ≤ 40
+split-below : (split : Split) → total split < 10 ^ 9 → length (further (figuresOf split)) ≤ 40
 split-below split h =
     omega (
       arith,
@@ -64,7 +64,7 @@ module _ (book : List ℕ) (r s : ℕ) (counts : Counts) (checked : checkOf book
       let figure = further-below 8 (costOf (viewOf book counts) links) (omega arith) in
       let count = further-below 3 (length links) (omega arith) in
       let four = split-below split (omega (arith, adds-up (viewOf book counts) links)) in
-      omega (arith, length-many 0 (costOf (viewOf book counts) links) (split .ride ∷ split .wait ∷ split .walk ∷ split .extra ∷ []) (length links) links, links-room)
+      omega (arith, length-many 0 (costOf (viewOf book counts) links) (figuresOf split) (length links) links, links-room)
 
 pub refusal-line : (number place : ℕ) → number ≤ 17 → place ≤ 4096 → length (line (number ∷ place ∷ [])) ≤ longestLine
 refusal-line number place n p = omega (arith, length-two number place, length-below 1 number (omega arith), further-below 3 place (omega arith))

@@ -12,6 +12,7 @@ use Rattle.book.specs.Check.{checkOf, refusal}
 use Rattle.walk.specs.View.{viewOf}
 use Rattle.walk.specs.Walks.{costOf}
 use Rattle.walk.specs.Labels.{Route}
+use Rattle.walk.specs.steps.Splits.{splitIn}
 use Rattle.walk.proofs.theory.Laws.{clash}
 use Rattle.search.specs.declared.Routed.{Routed}
 use Rattle.search.specs.declared.Routed.the-variants.{Done as RouteDone, Refused as RouteRefused}
@@ -21,7 +22,7 @@ use Rattle.search.proofs.RouteAccounted.{route-costed}
 use Rattle.sheet.specs.declared.Sheeted.the-variants.{Line}
 use Rattle.sheet.specs.Sheet.{beforeBook, originOf, destinationOf, bookOf, routeFields, fieldsOf, Planned, refused, no-walk, done, asked, longestLine, Sheet, printed}
 use Rattle.sheet.specs.steps.Planning.{Found, refused as found-refused, no-walk as found-none, done as found-route}
-use Rattle.sheet.specs.steps.Routes.{splitIn, askedFields}
+use Rattle.sheet.specs.steps.Routes.{askedFields}
 use Rattle.sheet.specs.steps.Asking.{LinePut}
 
 -- the fields of a refusal

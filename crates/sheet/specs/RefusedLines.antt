@@ -61,9 +61,12 @@ tableA = written (3000 ∷ 0 ∷ 4001 ∷ 0 ∷ 2500 ∷ 0 ∷ 3500 ∷ 0 ∷ 44
 abbrev pub fareInputA : List ℕ
 fareInputA = written (0 ∷ 3 ∷ 10000 ∷ 0 ∷ 5000 ∷ 0 ∷ 100 ∷ 0 ∷ 97 ∷ 0 ∷ []) ++ bookA ++ tableA
 
--- and 1000 on a second line
+-- 1000 on a second line
+abbrev pub fareA : List ℕ
+fareA = 49 ∷ 48 ∷ 48 ∷ 48 ∷ 10 ∷ []
+
 abbrev pub textA : List ℕ
-textA = lineA ++ (49 ∷ 48 ∷ 48 ∷ 48 ∷ 10 ∷ [])
+textA = lineA ++ fareA
 
 abbrev pub wrongTexts : List (List ℕ)
 wrongTexts =
@@ -71,6 +74,8 @@ wrongTexts =
     (49 ∷ 55 ∷ 32 ∷ 48 ∷ 10 ∷ [])
     -- 10800: the premium is read from the step's place
     ∷ (lineA ++ (49 ∷ 48 ∷ 56 ∷ 48 ∷ 48 ∷ 10 ∷ []))
+    -- the first line without the four figures
+    ∷ (costPart ++ linksPart ++ (10 ∷ []) ++ fareA)
     -- the route's line alone
     ∷ lineA
     ∷ []

@@ -9,7 +9,7 @@ use Rattle.book.specs.declared.Checked.the-variants.{Good, Refused}
 use Rattle.book.specs.Number.{numberAt}
 use Rattle.walk.specs.declared.Split.{Split}
 use Rattle.walk.specs.View.{View, viewOf}
-use Rattle.walk.specs.Walks.{costOf, splitOf}
+use Rattle.walk.specs.Walks.{costOf, splitOf, figuresOf}
 use Rattle.walk.specs.Labels.{NodeWalk, Route}
 use Rattle.search.specs.Tests.{bothNodes}
 use Rattle.sheet.specs.declared.Sheeted.{Sheeted}
@@ -31,7 +31,7 @@ bookOf input = drop beforeBook input
 
 -- a route's fields: 0, cost, where the minutes go (document 02, request 5), number of links, then the links
 abbrev pub fieldsOf : ℕ → Split → List ℕ → List ℕ
-fieldsOf cost split links = 0 ∷ cost ∷ split .ride ∷ split .wait ∷ split .walk ∷ split .extra ∷ length links ∷ links
+fieldsOf cost split links = 0 ∷ cost ∷ (figuresOf split ++ (length links ∷ links))
 
 abbrev pub routeFields : View → List ℕ → List ℕ
 routeFields U links = fieldsOf (costOf U links) (splitOf U links) links

@@ -6,6 +6,7 @@ ghost use mathlib.Core.Path.{_≡_};
 ghost use mathlib.Core.List.{[], _∷_, _++_};
 ghost use Prim.Native.Nat.{_+_, _≤_};
 ghost use lib.ListN.{length, drop};
+ghost use Rattle.walk.specs.Walks.{figuresOf};
 ghost use Rattle.sheet.specs.Line.{further, line};
 ghost use Rattle.sheet.specs.Sheet.{fieldsOf};
 ghost use Rattle.sheet.specs.steps.Storing.{Stored};
@@ -61,8 +62,8 @@ pub fn put_number(text: &mut [u8], at: usize, n: usize) -> usize
 
 // The four figures, each after its blank.
 fn put_split(text: &mut [u8], at: usize, split: Split) -> usize
-    requires { ⌜ at + length (further (split .ride ∷ split .wait ∷ split .walk ∷ split .extra ∷ [])) ≤ length (now text) ⌝ }
-    ensures { λ r. ⌜ Stored (now (text .entry)) at (further (split .ride ∷ split .wait ∷ split .walk ∷ split .extra ∷ [])) (now (text .exit)) r ⌝ }
+    requires { ⌜ at + length (further (figuresOf split)) ≤ length (now text) ⌝ }
+    ensures { λ r. ⌜ Stored (now (text .entry)) at (further (figuresOf split)) (now (text .exit)) r ⌝ }
 {
     let at = put_field(text, at, split.ride as usize);
     let at = put_field(text, at, split.wait as usize);

@@ -2,32 +2,13 @@
 use super::lines::put_route;
 use book::NodeNumber;
 use search::cost_of;
-use walk::Costed;
-use walk::Split;
+use search::split_in;
 ghost use mathlib.Core.Path.{_≡_};
 ghost use mathlib.Core.List.{_++_};
 ghost use Prim.Native.Nat.{_≤_};
 ghost use lib.ListN.{length, drop};
 ghost use Rattle.sheet.specs.Line.{line};
-ghost use Rattle.sheet.specs.steps.Routes.{splitIn, askedFields};
-
-// Noughts where there is no cost, which no route's walk is without.
-fn split_in(costed: Costed) -> Split
-    ensures { λ r. ⌜ r ≡ splitIn costed ⌝ }
-{
-    let none = Split {
-        ride: 0,
-        wait: 0,
-        walk: 0,
-        extra: 0,
-    };
-    match costed {
-        Costed::Refused(_) => none,
-        Costed::TooLong => none,
-        Costed::NotPermitted => none,
-        Costed::Permitted(_, split) => split,
-    }
-}
+ghost use Rattle.sheet.specs.steps.Routes.{askedFields};
 
 pub fn print_route(
     book: &[u8],

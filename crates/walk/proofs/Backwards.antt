@@ -2,7 +2,6 @@
 use Prim.Native.Nat.{ℕ}
 use mathlib.Core.Path.{_≡_, refl, sym, ap, _∙_}
 use mathlib.Core.List.{List, [], _∷_, _++_, map, reverse, reverse-cons}
-use Rattle.walk.specs.declared.Split.{Split}
 use Rattle.walk.specs.View.{View}
 use lib.Dec.{ltb, eqb}
 use mathlib.Core.Bool.{Bool, not}

@@ -18,7 +18,7 @@ use Rattle.walk.specs.declared.onward.Advanced.{Advanced}
 use Rattle.walk.specs.declared.onward.Advanced.the-variants.{Stopped, Onward}
 use Rattle.walk.specs.View.{View, viewWith, viewOf, walksOf}
 use Rattle.walk.specs.Walks.{turnOf, permitted, costOf, splitOf, total}
-use Rattle.walk.specs.steps.Splits.{linkSplit, together}
+use Rattle.walk.specs.steps.Splits.{noSplit, linkSplit, together}
 use Rattle.walk.specs.Labels.{startBack}
 use Rattle.walk.specs.steps.Backwards.{turnsBack, permittedBack, splitBack, stepPermitted, stepSplit}
 use Rattle.walk.specs.steps.Onward.{turnBefore, advanced, oneMore, walkAnswer}
@@ -86,7 +86,7 @@ module _ (U : View) where
         let whole : reverse links ≡ reverse (drop k links) ++ (a ∷ earlier) = ap reverse (sym (take-append-drop k links)) ∙ reverse-append (take k links) (drop k links) ∙ ap (λ (l : List ℕ). reverse (drop k links) ++ l) e in
         up-to (reverse (drop k links)) a earlier (ap (permittedBack U r) (sym whole) ∙ sym (permitted-back links) ∙ h)
 
-    pub no-links : (links : List ℕ) → length links ≡ 0 → Permitted 0 (record { ride = 0; wait = 0; walk = 0; extra = 0 }) ≡ walkAnswer U r links
+    pub no-links : (links : List ℕ) → length links ≡ 0 → Permitted 0 noSplit ≡ walkAnswer U r links
     unfolding walkAnswer permitted costOf
     no-links [] e = refl
     no-links (l ∷ rest) e = absurd (omega arith)

@@ -5,9 +5,7 @@ use mathlib.Core.List.{List, [], _∷_}
 use Rattle.book.specs.Number.{withNumber}
 use Rattle.book.specs.BookA.{bookA}
 use Rattle.walk.specs.declared.Split.{Split}
-use Rattle.walk.specs.declared.Costed.{Costed}
 use Rattle.walk.specs.declared.Costed.the-variants.{Permitted}
-use Rattle.walk.specs.Walks.{total}
 use Rattle.walk.specs.Given.{costOfWalk}
 use Rattle.walk.specs.Cases.{longHeadwayA}
 use Rattle.walk.specs.Labelled.{RightAlone}
@@ -51,10 +49,10 @@ wrongSplits =
     ∷ parted longHeadwayA (0 ∷ 1 ∷ []) (split 90 40 0 0) (split 90 80 0 0)
     ∷ []
 
--- what the cost of a given walk answers for a split
-abbrev pub answered : Split → Costed
-answered figures = Permitted (total figures) figures
+-- the cost of these links, asked as those of a given walk from node 0, splits so, whatever it is
+abbrev pub SplitsInto : List ℕ → List ℕ → Split → Type 0
+SplitsInto book links figures = (cost : ℕ) × (costOfWalk book 0 links ≡ Permitted cost figures)
 
--- it is the right one, and not the one that is claimed
+-- the right split alone
 abbrev pub SplitRefused : Parted → Type 0
-SplitRefused row = RightAlone (λ (answer : Costed). answer ≡ costOfWalk (row .book) 0 (row .links)) (answered (row .right)) (answered (row .claimed))
+SplitRefused row = RightAlone (SplitsInto (row .book) (row .links)) (row .right) (row .claimed)

@@ -126,3 +126,6 @@ splitOf U links = record { ride = rideOf U links; wait = waitOf U links; walk = 
 
 abbrev pub total : Split → ℕ
 total split = split .ride + split .wait + split .walk + split .extra
+
+abbrev pub figuresOf : Split → List ℕ
+figuresOf split = split .ride ∷ split .wait ∷ split .walk ∷ split .extra ∷ []

@@ -1,14 +1,14 @@
 // The cost of a given walk, and where its minutes go.
 use super::Costed;
-use super::Split;
 use super::figures::MOST_LINKS_GIVEN;
 use super::figures::START_BACK;
 use super::offered::check;
 use super::onward::Advanced;
 use super::onward::advance;
-use super::splits::added;
 use super::splits::link_split;
-use super::splits::total_of;
+use super::splits::no_split;
+use super::splits::together;
+use super::splits::total;
 use super::walks::read_walks;
 use book::Checked;
 use book::Counts;
@@ -40,7 +40,7 @@ fn cost_onward(book: &[u8], counts: Counts, walks: &[u16], links: &[u16]) -> Cos
     let mut k = 1;
     'links: loop {
         if links.len() <= k {
-            break 'links Costed::Permitted(total_of(split), split);
+            break 'links Costed::Permitted(total(split), split);
         }
         let link = links[k];
         match advance(
@@ -57,7 +57,7 @@ fn cost_onward(book: &[u8], counts: Counts, walks: &[u16], links: &[u16]) -> Cos
             Advanced::Onward(turn, more) => {
                 last = link;
                 before = turn;
-                split = added(split, more);
+                split = together(split, more);
                 k += 1;
             }
         }
@@ -77,13 +77,7 @@ fn cost_along(
     ensures { λ r. ⌜ r ≡ walkAnswer (viewOf (now (book .entry)) counts) (origin .0) (now (links .entry)) ⌝ }
 {
     if links.len() == 0 {
-        let none = Split {
-            ride: 0,
-            wait: 0,
-            walk: 0,
-            extra: 0,
-        };
-        return Costed::Permitted(0, none);
+        return Costed::Permitted(0, no_split());
     }
     let first = links[0];
     if counts.links <= first as usize {

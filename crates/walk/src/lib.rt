@@ -29,6 +29,7 @@ pub use pairs::between_at;
 pub use pairs::between_turns;
 pub use pairs::pair_from;
 pub use pairs::pairs_of;
+pub use splits::split_in;
 pub use steps::link_cost;
 pub use steps::step_to;
 pub use steps::turn_cost;

@@ -1,11 +1,10 @@
 // One more link of a given walk.
 use super::Between;
 use super::Split;
-use super::Step;
 use super::figures::START_BACK;
 use super::pairs::between_turns;
 use super::splits::turn_split;
-use super::steps::step_to;
+use super::steps::may_step;
 use super::turns::turn_of;
 use book::Counts;
 use book::LinkNumber;
@@ -61,11 +60,11 @@ pub fn advance(
         return Advanced::Stopped;
     }
     let stands = stands_after(book, counts, walks, before, TurnNumber(turn));
-    match step_to(book, counts, walks, stands, TurnNumber(turn)) {
-        Step::Barred => Advanced::Stopped,
-        Step::Seconds(_) => Advanced::Onward(
-            turn,
-            turn_split(book, counts, walks, stands, TurnNumber(turn)),
-        ),
+    if !may_step(walks, stands, TurnNumber(turn)) {
+        return Advanced::Stopped;
     }
+    Advanced::Onward(
+        turn,
+        turn_split(book, counts, walks, stands, TurnNumber(turn)),
+    )
 }

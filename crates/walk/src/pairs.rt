@@ -1,4 +1,4 @@
-// Two successive turns looked up within the first one's run of pairs.
+// Two successive turns looked up within the first one's run of pairs, and what the look-up tells.
 use super::Between;
 use super::Run;
 use book::BARRED;
@@ -18,7 +18,7 @@ ghost use Rattle.book.specs.Entries.{barred};
 ghost use Rattle.book.specs.Check.{checkOf};
 ghost use Rattle.book.specs.Runs.{runFrom};
 ghost use Rattle.walk.specs.View.{viewWith};
-ghost use Rattle.walk.specs.Walks.{lookUp, listedAs, between};
+ghost use Rattle.walk.specs.Walks.{lookUp, listedAs, between, allowed, seconds};
 ghost use Rattle.walk.specs.steps.Pairs.{pairFrom, listedAt};
 
 // The pairs whose first turn is this one.
@@ -117,4 +117,26 @@ pub fn between_turns(
     let run = pairs_of(book, counts, before);
     let at = pair_from(book, counts, run.start, run.end, turn);
     between_at(book, counts, walks, at, run.end, before, turn)
+}
+
+pub fn allowed(stands: Between) -> bool
+    ensures { λ r. ⌜ r ≡ allowed stands ⌝ }
+{
+    match stands {
+        Between::Listed(_) => true,
+        Between::Forbidden => false,
+        Between::CarriedOver(_) => true,
+        Between::Nothing => true,
+    }
+}
+
+pub fn seconds(stands: Between) -> u16
+    ensures { λ r. ⌜ r ≡ seconds stands ⌝ }
+{
+    match stands {
+        Between::Listed(extra) => extra,
+        Between::Forbidden => 0,
+        Between::CarriedOver(extra) => extra,
+        Between::Nothing => 0,
+    }
 }

@@ -1,6 +1,8 @@
 // Where the minutes go (document 02, request 5): what a walk's first link and each turn after it add to the four figures.
 use super::Between;
+use super::Costed;
 use super::Split;
+use super::pairs::seconds;
 use super::steps::link_wait;
 use super::steps::turn_wait;
 use book::Counts;
@@ -15,17 +17,16 @@ ghost use Rattle.book.specs.declared.Checked.the-variants.{Good};
 ghost use Rattle.book.specs.Check.{checkOf};
 ghost use Rattle.walk.specs.View.{viewOf, viewWith};
 ghost use Rattle.walk.specs.Walks.{seconds, total};
-ghost use Rattle.walk.specs.steps.Splits.{linkSplit, turnSplit, together};
+ghost use Rattle.walk.specs.steps.Splits.{noSplit, linkSplit, turnSplit, together, splitIn};
 
-// The seconds of what stands between two turns, by the case that the look-up tells.
-fn extra_of(stands: Between) -> u16
-    ensures { λ r. ⌜ r ≡ seconds stands ⌝ }
+pub fn no_split() -> Split
+    ensures { λ r. ⌜ r ≡ noSplit ⌝ }
 {
-    match stands {
-        Between::Listed(extra) => extra,
-        Between::Forbidden => 0,
-        Between::CarriedOver(extra) => extra,
-        Between::Nothing => 0,
+    Split {
+        ride: 0,
+        wait: 0,
+        walk: 0,
+        extra: 0,
     }
 }
 
@@ -59,7 +60,7 @@ pub fn turn_split(
     let ride = link_ride(book, counts, second);
     let wait = turn_wait(book, counts, walks, turn);
     let walk = walks[turn.0 as usize];
-    let extra = extra_of(stands);
+    let extra = seconds(stands);
     Split {
         ride: ride as u32,
         wait,
@@ -68,7 +69,7 @@ pub fn turn_split(
     }
 }
 
-pub fn added(so_far: Split, more: Split) -> Split
+pub fn together(so_far: Split, more: Split) -> Split
     requires { ⌜ total «so_far» + total more < 4294967296 ⌝ }
     ensures { λ r. ⌜ r ≡ together «so_far» more ⌝ }
 {
@@ -80,9 +81,21 @@ pub fn added(so_far: Split, more: Split) -> Split
     }
 }
 
-pub fn total_of(split: Split) -> u32
+pub fn total(split: Split) -> u32
     requires { ⌜ total split < 4294967296 ⌝ }
     ensures { λ r. ⌜ r ≡ total split ⌝ }
 {
     split.ride + split.wait + split.walk + split.extra
+}
+
+// The split in an answer: noughts where the walk has no cost.
+pub fn split_in(costed: Costed) -> Split
+    ensures { λ r. ⌜ r ≡ splitIn costed ⌝ }
+{
+    match costed {
+        Costed::Refused(_) => no_split(),
+        Costed::TooLong => no_split(),
+        Costed::NotPermitted => no_split(),
+        Costed::Permitted(_, split) => split,
+    }
 }

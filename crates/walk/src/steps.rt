@@ -1,6 +1,8 @@
 // What a walk's first link costs, what a turn adds, and the step from a turn to the next.
 use super::Between;
 use super::Step;
+use super::pairs::allowed;
+use super::pairs::seconds;
 use book::BARRED;
 use book::Counts;
 use book::LinkNumber;
@@ -11,12 +13,15 @@ use book::link_ride;
 use book::turn_first;
 use book::turn_second;
 ghost use mathlib.Core.Path.{_≡_};
-ghost use Prim.Native.Nat.{_+_, _<_};
-ghost use lib.ListN.{length};
+ghost use mathlib.Core.Bool.{not, _&&_};
+ghost use Prim.Native.Nat.{_<_};
+ghost use lib.Dec.{eqb};
+ghost use lib.ListN.{length, getD};
 ghost use Rattle.book.specs.declared.Checked.the-variants.{Good};
+ghost use Rattle.book.specs.Entries.{barred};
 ghost use Rattle.book.specs.Check.{checkOf};
 ghost use Rattle.walk.specs.View.{viewOf, viewWith};
-ghost use Rattle.walk.specs.Walks.{linkWait, boards, turnWait};
+ghost use Rattle.walk.specs.Walks.{allowed, linkWait, boards, turnWait};
 ghost use Rattle.walk.specs.steps.Costs.{linkCost, turnCost};
 ghost use Rattle.walk.specs.steps.Pairs.{stepTo};
 
@@ -75,13 +80,13 @@ pub fn turn_cost(book: &[u8], counts: Counts, walks: &[u16], turn: TurnNumber) -
     walk as u32 + (ride as u32 + turn_wait(book, counts, walks, turn))
 }
 
-// The same after an extra.
-fn seconds_more(book: &[u8], counts: Counts, walks: &[u16], extra: u16, turn: TurnNumber) -> u32
-    requires { ⌜ checkOf (now book) ≡ Good counts ⌝ }
-    requires { ⌜ (length (now walks) ≡ counts .turns) × (turn .0 < counts .turns) ⌝ }
-    ensures { λ r. ⌜ r ≡ extra + turnCost (viewWith (now (book .entry)) counts (now (walks .entry))) (turn .0) ⌝ }
+// Whether a turn may come after what stands between it and the turn before.
+pub fn may_step(walks: &[u16], stands: Between, turn: TurnNumber) -> bool
+    requires { ⌜ turn .0 < length (now walks) ⌝ }
+    ensures { λ r. ⌜ r ≡ (not (eqb (getD (now (walks .entry)) (turn .0) 0) barred) && allowed stands) ⌝ }
 {
-    extra as u32 + turn_cost(book, counts, walks, turn)
+    let walk = walks[turn.0 as usize];
+    !(walk == BARRED) & allowed(stands)
 }
 
 // The step to a turn, after what stands between it and the turn before.
@@ -96,20 +101,8 @@ pub fn step_to(
     requires { ⌜ (length (now walks) ≡ counts .turns) × (turn .0 < counts .turns) ⌝ }
     ensures { λ r. ⌜ r ≡ stepTo (viewWith (now (book .entry)) counts (now (walks .entry))) stands (turn .0) ⌝ }
 {
-    let walk = walks[turn.0 as usize];
-    if walk == BARRED {
+    if !may_step(walks, stands, turn) {
         return Step::Barred;
     }
-    match stands {
-        Between::Listed(extra) => Step::Seconds(seconds_more(book, counts, walks, extra, turn)),
-        Between::Forbidden => Step::Barred,
-        Between::CarriedOver(extra) => Step::Seconds(seconds_more(
-            book,
-            counts,
-            walks,
-            extra,
-            turn,
-        )),
-        Between::Nothing => Step::Seconds(seconds_more(book, counts, walks, 0, turn)),
-    }
+    Step::Seconds(seconds(stands) as u32 + turn_cost(book, counts, walks, turn))
 }

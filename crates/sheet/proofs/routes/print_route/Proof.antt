@@ -1,12 +1,8 @@
 -- The figures that are put are those in the answer for the given walk.
-use Prim.Native.Nat.{ℕ, _≤_}
-use mathlib.Core.Path.{_≡_, ap, _∙_, subst}
-use mathlib.Core.List.{_++_}
-use lib.ListN.{length, drop}
+use mathlib.Core.Path.{_≡_, ap, _∙_}
 use denote.Ref.{now}
-use Rattle.walk.specs.declared.Split.{Split}
 use Rattle.walk.specs.Given.{costOfWalk}
-use Rattle.sheet.specs.steps.Routes.{splitIn}
+use Rattle.walk.specs.steps.Splits.{splitIn}
 use borrow.Author.Needs.{needs}
 use Rattle.sheet.proofs.routes.print_route.Statement.{statement}
 use Rattle.sheet.proofs.routes.print_route.Tie as tie

@@ -6,8 +6,11 @@ use Rattle.walk.proofs.GivenWalks.{no-links, no-start}
 use Rattle.walk.proofs.given.cost_along.Statement.{statement}
 use Rattle.walk.proofs.given.cost_along.Tie as tie
 
+no-split-requires : tie.Need-no-split-requires
+no-split-requires c κs = search needs
+
 returns : tie.Need-returns
-returns c = no-links _ _ _ (c .if1 .taken)
+returns c = rw (c .no-split .ensures) (no-links _ _ _ (c .before .if1 .taken))
 
 shared-slice-read-first : tie.Need-shared-slice-read-first
 shared-slice-read-first c = search needs
@@ -36,6 +39,7 @@ pub cost-along-spec : {M : Type 1} → statement M
 cost-along-spec =
     tie.close
     (tie.spec
+    no-split-requires
     returns
     shared-slice-read-first
     cast-if2

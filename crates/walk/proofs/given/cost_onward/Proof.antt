@@ -30,8 +30,8 @@ links-holds c =
     let start = c .before .before .before .before .before in
     set-out (now (start .args .book)) (start .args .counts) (now (start .args .walks)) (start .pre .0 .0) (start .pre .0 .1) (now (start .args .links)) _ (start .pre .1 .0) (start .pre .1 .2) (c .link-split .ensures)
 
-total-of-requires : tie.Need-total-of-requires Inv-links μ-links
-total-of-requires c κs =
+total-requires : tie.Need-total-requires Inv-links μ-links
+total-requires c κs =
     let start = c .before .before .before .before .before .before .before in
     omega (arith, c .before .links .inv .limit, c .before .links .inv .within, start .pre .1 .1)
 
@@ -53,8 +53,8 @@ enum-told c = search needs
 enum-known-turn : tie.Need-enum-known-turn Inv-links μ-links
 enum-known-turn c = search needs
 
-added-requires : tie.Need-added-requires Inv-links μ-links
-added-requires c κs =
+together-requires : tie.Need-together-requires Inv-links μ-links
+together-requires c κs =
     let at = c .before .before .before .before .before .before in
     let start = at .before .before .before .before .before .before in
     let (more, along) = goes-on (now (start .args .book)) (start .args .counts) (now (start .args .walks)) (start .pre .0 .0) (start .pre .0 .1) (now (start .args .links)) _ (at .links .inv) (search needs) refl (c .before .before .before .advance .ensures) (c .before .turn .given .1) in
@@ -70,14 +70,14 @@ links-again : tie.Need-links-again Inv-links μ-links
 links-again c =
     let at = c .before .before .before .before .before .before .before in
     let start = at .before .before .before .before .before .before in
-    rw (c .added .ensures)
+    rw (c .together .ensures)
     (goes-on (now (start .args .book)) (start .args .counts) (now (start .args .walks)) (start .pre .0 .0) (start .pre .0 .1) (now (start .args .links)) _ (at .links .inv) (search needs) refl (c .before .before .before .before .advance .ensures) (c .before .before .turn .given .1) .1)
 
 returns : tie.Need-returns Inv-links μ-links
 returns c =
     let at = c .before .before in
     let start = at .before .before .before .before .before .before in
-    rw (c .total-of .ensures)
+    rw (c .total .ensures)
     (arrived (now (start .args .book)) (start .args .counts) (now (start .args .walks)) (start .pre .0 .0) (start .pre .0 .1) (now (start .args .links)) _ (at .links .inv) (c .before .if1 .taken))
 
 returns-2 : tie.Need-returns-2 Inv-links μ-links
@@ -95,13 +95,13 @@ cost-onward-spec =
     shared-slice-read-last
     link-split-requires
     links-holds
-    total-of-requires
+    total-requires
     mul-link
     shared-slice-read-link
     advance-requires
     enum-told
     enum-known-turn
-    added-requires
+    together-requires
     add-k
     links-less
     links-again

@@ -1,7 +1,7 @@
--- The step to the turn that the link makes says whether the link may come, and what stands before it what the link adds.
+-- The turn that the link makes says whether the link may come; what stands before it says what the link adds.
 use borrow.Author.Needs.{needs}
 use denote.Ref.{now}
-use Rattle.walk.proofs.NextLink.{missing-stops, barred-stops, seconds-onward}
+use Rattle.walk.proofs.NextLink.{missing-stops, barred-stops, goes-onward}
 use Rattle.walk.proofs.onward.advance.Statement.{statement}
 use Rattle.walk.proofs.onward.advance.Tie as tie
 
@@ -20,31 +20,25 @@ returns c =
 stands-after-requires : tie.Need-stands-after-requires
 stands-after-requires c κs = search needs
 
-step-to-requires : tie.Need-step-to-requires
-step-to-requires c κs = search needs
+may-step-requires : tie.Need-may-step-requires
+may-step-requires c κs = search needs
 
-enum-told : tie.Need-enum-told
-enum-told c = search needs
-
-enum-told-2 : tie.Need-enum-told-2
-enum-told-2 c = search needs
+returns-2 : tie.Need-returns-2
+returns-2 c =
+    let after = c .before .before in
+    let at = after .before .before .before in
+    let start = at .before .before .before in
+    barred-stops (now (start .args .book)) (start .args .counts) (now (start .args .walks)) (start .pre .0) (start .args .before) (start .args .last .0) (start .args .link .0) (at .turn-of .ensures) (search needs) (after .stands-after .ensures) (c .before .may-step .ensures) (c .if2 .taken)
 
 turn-split-requires : tie.Need-turn-split-requires
 turn-split-requires c κs = search needs
 
-returns-2 : tie.Need-returns-2
-returns-2 c =
+returns-3 : tie.Need-returns-3
+returns-3 c =
     let after = c .before .before .before in
     let at = after .before .before .before in
     let start = at .before .before .before in
-    barred-stops (now (start .args .book)) (start .args .counts) (now (start .args .walks)) (start .pre .0) (start .args .before) (start .args .last .0) (start .args .link .0) (at .turn-of .ensures) (search needs) (after .stands-after .ensures) (c .before .before .step-to .ensures) (c .enum-told .given .1)
-
-returns-3 : tie.Need-returns-3
-returns-3 c =
-    let after = c .before .before .before .before in
-    let at = after .before .before .before in
-    let start = at .before .before .before in
-    seconds-onward (now (start .args .book)) (start .args .counts) (now (start .args .walks)) (start .pre .0) (start .args .before) (start .args .last .0) (start .args .link .0) (at .turn-of .ensures) (search needs) (after .stands-after .ensures) (c .before .before .before .step-to .ensures) (c .before .enum-told2 .given .1) (c .turn-split .ensures)
+    goes-onward (now (start .args .book)) (start .args .counts) (now (start .args .walks)) (start .pre .0) (start .args .before) (start .args .last .0) (start .args .link .0) (at .turn-of .ensures) (search needs) (after .stands-after .ensures) (c .before .before .may-step .ensures) (c .before .if2 .left) (c .turn-split .ensures)
 
 pub advance-spec : {M : Type 1} → statement M
 advance-spec =
@@ -54,9 +48,7 @@ advance-spec =
     cast-if1
     returns
     stands-after-requires
-    step-to-requires
-    enum-told
-    enum-told-2
-    turn-split-requires
+    may-step-requires
     returns-2
+    turn-split-requires
     returns-3)

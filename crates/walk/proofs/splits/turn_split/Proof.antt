@@ -25,8 +25,8 @@ mul-walk c = search needs
 shared-slice-read-walk : tie.Need-shared-slice-read-walk
 shared-slice-read-walk c = search needs
 
-extra-of-requires : tie.Need-extra-of-requires
-extra-of-requires c κs = search needs
+seconds-requires : tie.Need-seconds-requires
+seconds-requires c κs = search needs
 
 cast-t15 : tie.Need-cast-t15
 cast-t15 c = search needs
@@ -40,7 +40,7 @@ cast-t17 : tie.Need-cast-t17
 cast-t17 c = search needs
 
 returns : tie.Need-returns
-returns c = rw (c .extra-of .ensures, c .before .before .before .turn-wait .ensures, c .before .before .before .before .link-ride .ensures, c .before .before .before .before .before .turn-second .ensures)
+returns c = rw (c .seconds .ensures, c .before .before .before .turn-wait .ensures, c .before .before .before .before .link-ride .ensures, c .before .before .before .before .before .turn-second .ensures)
 
 pub turn-split-spec : {M : Type 1} → statement M
 turn-split-spec =
@@ -52,7 +52,7 @@ turn-split-spec =
     cast-walk
     mul-walk
     shared-slice-read-walk
-    extra-of-requires
+    seconds-requires
     cast-t15
     cast-t16
     cast-t17

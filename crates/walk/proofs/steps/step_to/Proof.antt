@@ -1,82 +1,46 @@
--- Case by case of what stands between.
+-- The step is barred where the turn may not come, and else adds little enough that the sum fits.
 use borrow.Author.Needs.{needs}
-use borrow.Author.Tests.{eq-eqb, ne-eqb}
+use denote.Ref.{now}
+use native.Mathlib.Omega.{arith}
+use Rattle.book.proofs.Answers.{held, failed}
 use Rattle.walk.specs.steps.Pairs.{stepTo}
+use Rattle.walk.proofs.GoodView.{turn-limit}
 use Rattle.walk.proofs.steps.step_to.Statement.{statement}
 use Rattle.walk.proofs.steps.step_to.Tie as tie
 
-cast-walk : tie.Need-cast-walk
-cast-walk c = search needs
-
-mul-walk : tie.Need-mul-walk
-mul-walk c = search needs
-
-shared-slice-read-walk : tie.Need-shared-slice-read-walk
-shared-slice-read-walk c = search needs
+may-step-requires : tie.Need-may-step-requires
+may-step-requires c κs = search needs
 
 returns : tie.Need-returns
 unfolding stepTo
-returns c = rw (eq-eqb _ _ (c .if1 .taken))
+returns c = rw (failed (c .before .may-step .ensures) (c .if1 .taken))
 
-enum-known-stands : tie.Need-enum-known-stands
-enum-known-stands c = search needs
+seconds-requires : tie.Need-seconds-requires
+seconds-requires c κs = search needs
 
-seconds-more-requires : tie.Need-seconds-more-requires
-seconds-more-requires c κs = search needs
+cast-t9 : tie.Need-cast-t9
+cast-t9 c = search needs
 
-enum-told : tie.Need-enum-told
-enum-told c = search needs
+turn-cost-requires : tie.Need-turn-cost-requires
+turn-cost-requires c κs = search needs
 
-enum-known-stands-2 : tie.Need-enum-known-stands-2
-enum-known-stands-2 c = search needs
-
-seconds-more-requires-2 : tie.Need-seconds-more-requires-2
-seconds-more-requires-2 c κs = search needs
-
-enum-told-2 : tie.Need-enum-told-2
-enum-told-2 c = search needs
-
-seconds-more-requires-3 : tie.Need-seconds-more-requires-3
-seconds-more-requires-3 c κs = search needs
+add-t11 : tie.Need-add-t11
+add-t11 c =
+    let start = c .before .before .before .before .before .before in
+    omega (arith, c .turn-cost .ensures, turn-limit (now (start .args .book)) (start .args .counts) (now (start .args .walks)) (start .pre .0) (start .args .turn .0) (start .pre .1 .1), c .before .before .before .before .shared-slice-known2 .given (start .args .turn .0))
 
 returns-2 : tie.Need-returns-2
 unfolding stepTo
-returns-2 c =
-    let at = c .before .before in
-    rw (ne-eqb _ _ (at .before .before .if1 .left), at .stands .given .1, c .seconds-more .ensures)
-
-returns-3 : tie.Need-returns-3
-unfolding stepTo
-returns-3 c = rw (ne-eqb _ _ (c .before .before .if1 .left), c .enum-told .given .1)
-
-returns-4 : tie.Need-returns-4
-unfolding stepTo
-returns-4 c =
-    let at = c .before .before in
-    rw (ne-eqb _ _ (at .before .before .if1 .left), at .stands2 .given .1, c .seconds-more2 .ensures)
-
-returns-5 : tie.Need-returns-5
-unfolding stepTo
-returns-5 c =
-    let at = c .before in
-    rw (ne-eqb _ _ (at .before .before .if1 .left), at .enum-told2 .given .1, c .seconds-more3 .ensures)
+returns-2 c = rw (held (c .before .before .before .may-step .ensures) (c .before .before .if1 .left), c .turn-cost .ensures, c .before .seconds .ensures)
 
 pub step-to-spec : {M : Type 1} → statement M
 step-to-spec =
     tie.close
     (tie.spec
-    cast-walk
-    mul-walk
-    shared-slice-read-walk
+    may-step-requires
     returns
-    enum-known-stands
-    seconds-more-requires
-    enum-told
-    enum-known-stands-2
-    seconds-more-requires-2
-    enum-told-2
-    seconds-more-requires-3
-    returns-2
-    returns-3
-    returns-4
-    returns-5)
+    seconds-requires
+    cast-t9
+    turn-cost-requires
+    add-t11
+    returns-2)

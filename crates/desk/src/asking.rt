@@ -57,7 +57,7 @@ fn of_routed(answer: Routed, book: &[u8], origin: NodeNumber, links: &[u16]) -> 
     Told {
         number: found.number,
         place: found.place,
-        count: 6,
+        count: MOST_FIGURES,
         figures: [
             found.cost as u64,
             split.ride as u64,

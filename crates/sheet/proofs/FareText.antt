@@ -7,7 +7,7 @@ use lib.ListN.{length, drop, length-append, length-drop}
 use lib.Seq.{sets, sets-eq, take-append-seam, drop-append-add, drop-drop}
 use Rattle.sheet.specs.Line.{line}
 use Rattle.sheet.specs.FareSheet.{textOf}
-use Rattle.sheet.specs.steps.Storing.{Stored}
+use Rattle.sheet.specs.steps.Storing.{Stored, LineFirst}
 use Rattle.sheet.specs.steps.Faring.{LinesPut}
 
 pub text-one : (fields : List ℕ) → textOf (fields ∷ []) ≡ line fields
@@ -25,11 +25,11 @@ stored-next one two text h =
     rw (sets-eq two (one ++ drop (length one) text) (length one) room, take-append-seam one (drop (length one) text), drop-append-add one (drop (length one) text) (length two), drop-drop (length two) (length one) text)
 
 module _ {Told : List (List ℕ) → Type 0} {text after : List ℕ} {end : ℕ} where
-  pub one-put : (fields : List ℕ) → Told (fields ∷ []) → (after ≡ line fields ++ drop (length (line fields)) text) × (end ≡ length (line fields)) → LinesPut Told text after end
+  pub one-put : (fields : List ℕ) → Told (fields ∷ []) → LineFirst fields text after end → LinesPut Told text after end
   one-put fields told put = record { lines = fields ∷ []; told = told; text-after = rw (text-one fields) (put .0); end-at = rw (text-one fields) (put .1) }
 
   pub two-put : {middle : List ℕ} {at : ℕ} (one two : List ℕ) → Told (one ∷ two ∷ []) → length (line one) + length (line two) ≤ length text
-      → (middle ≡ line one ++ drop (length (line one)) text) × (at ≡ length (line one)) → Stored middle at (line two) after end → LinesPut Told text after end
+      → LineFirst one text middle at → Stored middle at (line two) after end → LinesPut Told text after end
   two-put {middle} {at} one two told room first second =
       record {
         lines = one ∷ two ∷ [];

@@ -3,13 +3,13 @@ use super::decimals::put_byte;
 use super::decimals::put_decimal;
 use walk::Split;
 ghost use mathlib.Core.Path.{_≡_};
-ghost use mathlib.Core.List.{[], _∷_, _++_};
+ghost use mathlib.Core.List.{[], _∷_};
 ghost use Prim.Native.Nat.{_+_, _≤_};
-ghost use lib.ListN.{length, drop};
+ghost use lib.ListN.{length};
 ghost use Rattle.walk.specs.Walks.{figuresOf};
 ghost use Rattle.sheet.specs.Line.{further, line};
 ghost use Rattle.sheet.specs.Sheet.{fieldsOf};
-ghost use Rattle.sheet.specs.steps.Storing.{Stored};
+ghost use Rattle.sheet.specs.steps.Storing.{Stored, LineFirst};
 
 // What ends every line.
 const NEWLINE: u8 = b'\n';
@@ -44,7 +44,7 @@ fn put_links(text: &mut [u8], at: usize, links: &[u16]) -> usize
 
 pub fn put_refusal(text: &mut [u8], number: u8, place: usize) -> usize
     requires { ⌜ length (line (number ∷ place ∷ [])) ≤ length (now text) ⌝ }
-    ensures { λ r. ⌜ (now (text .exit) ≡ line (number ∷ place ∷ []) ++ drop (length (line (number ∷ place ∷ []))) (now (text .entry))) × (r ≡ length (line (number ∷ place ∷ []))) ⌝ }
+    ensures { λ r. ⌜ LineFirst (number ∷ place ∷ []) (now (text .entry)) (now (text .exit)) r ⌝ }
 {
     let at = put_decimal(text, 0, number as usize);
     let at = put_field(text, at, place);
@@ -73,7 +73,7 @@ fn put_split(text: &mut [u8], at: usize, split: Split) -> usize
 
 pub fn put_route(text: &mut [u8], cost: u32, split: Split, links: &[u16]) -> usize
     requires { ⌜ length (line (fieldsOf cost split (now links))) ≤ length (now text) ⌝ }
-    ensures { λ r. ⌜ (now (text .exit) ≡ line (fieldsOf cost split (now (links .entry))) ++ drop (length (line (fieldsOf cost split (now (links .entry))))) (now (text .entry))) × (r ≡ length (line (fieldsOf cost split (now (links .entry))))) ⌝ }
+    ensures { λ r. ⌜ LineFirst (fieldsOf cost split (now (links .entry))) (now (text .entry)) (now (text .exit)) r ⌝ }
 {
     let at = put_decimal(text, 0, 0);
     let at = put_field(text, at, cost as usize);

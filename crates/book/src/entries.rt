@@ -16,7 +16,7 @@ const MOST_SECONDS: u16 = 3600;
 pub const BARRED: u16 = 65535;
 
 // What a scan of one table finds.
-#[derive(Drop)]
+#[derive(Clone, Copy)]
 pub enum Scanned {
     Clean,
     Bad(Refusal),

@@ -1,4 +1,5 @@
 // The day book: whether it is good, what its fields say, and the write of one turn's walk.
+#![tactic(auto)]
 mod carried;
 mod checks;
 mod entries;
@@ -20,17 +21,17 @@ pub use numbers::number_at;
 pub use runs::{pairs_from, turns_from};
 
 // A link number, a turn number and a node number are numbered apart; none may stand where another is meant.
-#[derive(Drop)]
+#[derive(Clone, Copy)]
 pub struct LinkNumber(pub u16);
 
-#[derive(Drop)]
+#[derive(Clone, Copy)]
 pub struct TurnNumber(pub u16);
 
-#[derive(Drop)]
+#[derive(Clone, Copy)]
 pub struct NodeNumber(pub u16);
 
 // The figures of the header.
-#[derive(Drop)]
+#[derive(Clone, Copy)]
 pub struct Counts {
     pub nodes: usize,
     pub lines: usize,
@@ -41,20 +42,20 @@ pub struct Counts {
 }
 
 // Document 01's number, and the place: an entry's number in its own table, or 0.
-#[derive(Drop)]
+#[derive(Clone, Copy)]
 pub struct Refusal {
     pub number: u8,
     pub place: usize,
 }
 
-#[derive(Drop)]
+#[derive(Clone, Copy)]
 pub enum Checked {
     Good(Counts),
     Refused(Refusal),
 }
 
 // A good book and the counts that its check found.
-#[derive(Drop)]
+#[derive(Clone, Copy)]
 pub struct CheckedBook<'a> {
     bytes: &'a [u8],
     counts: Counts,

@@ -6,7 +6,7 @@ use script::{Verb, within_numbers};
 use search::{Routed, Searched, cost_of, route, route_given_back, search, split_in};
 
 // A question with its numbers and the fares' terms.
-#[derive(Drop)]
+#[derive(Clone, Copy)]
 pub struct Asked {
     pub verb: Verb,
     pub origin: u16,
@@ -19,7 +19,7 @@ pub struct Asked {
 pub const MOST_FIGURES: usize = 6;
 
 // The figures that a question's answer has by documents 01 and 02: number and place, so many others, and so many links of the route buffer after them.
-#[derive(Drop)]
+#[derive(Clone, Copy)]
 pub struct Told {
     pub number: u8,
     pub place: usize,

@@ -8,7 +8,7 @@ use script::{
 use std::num::wrapping_add_usize;
 
 // How many numbers are lent of a table's three buffers.
-#[derive(Drop)]
+#[derive(Clone, Copy)]
 struct Lent {
     costs: usize,
     links: usize,

@@ -1,4 +1,5 @@
 // The travel desk: each line of a script is a question, and its answer is a line.
+#![tactic(auto)]
 mod answering;
 mod asking;
 mod lending;

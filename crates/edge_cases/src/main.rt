@@ -1,4 +1,5 @@
 // The few cases that no line of the desk can say: texts of little room for a sheet, and terms of a fare past 32 bits.
+#![tactic(auto)]
 use book::NodeNumber;
 use fare::{Fared, Metres, Terms, Won, fare};
 use libc::STDIN_FILENO;

@@ -1,4 +1,5 @@
 // The fare: what the route that was found costs in won, by the distance fare of document 000.
+#![tactic(auto)]
 use book::Refusal;
 
 mod amounts;
@@ -11,14 +12,14 @@ pub use reckoning::fare_of;
 pub use tables::fares_good;
 
 // Won and metres are kept apart; neither may stand where the other is meant.
-#[derive(Drop)]
+#[derive(Clone, Copy)]
 pub struct Won(pub u64);
 
-#[derive(Drop)]
+#[derive(Clone, Copy)]
 pub struct Metres(pub u64);
 
 // What stands beside a fare table: the basic distance, the step beyond it, and the premium for a step.
-#[derive(Drop)]
+#[derive(Clone, Copy)]
 pub struct Terms {
     pub distance: Metres,
     pub step: Metres,
@@ -26,14 +27,14 @@ pub struct Terms {
 }
 
 // What a fare answers: cost and number of links of Route's own walk and the fare of it, or a refusal.
-#[derive(Drop)]
+#[derive(Clone, Copy)]
 pub enum Fared {
     Done(u32, u16, Won),
     Refused(Refusal),
 }
 
 // An answer's number, place, cost, number of links and fare.
-#[derive(Drop)]
+#[derive(Clone, Copy)]
 pub struct FareFigures {
     pub number: u8,
     pub place: usize,

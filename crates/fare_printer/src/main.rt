@@ -1,4 +1,5 @@
 // The fare printer: the two nodes, the terms of the fares, book and fare table from standard input, a route's line and its fare to standard output.
+#![tactic(auto)]
 use libc::{STDIN_FILENO, STDOUT_FILENO};
 use sheet::{Sheeted, fare_sheet};
 

@@ -1,4 +1,5 @@
 // The route printer: origin, destination and book from standard input, one line to standard output.
+#![tactic(auto)]
 use libc::{STDIN_FILENO, STDOUT_FILENO};
 use sheet::{Sheeted, sheet};
 

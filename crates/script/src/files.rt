@@ -11,7 +11,7 @@ use std::num::wrapping_add_usize;
 pub const FILE_ROOM: usize = 65537;
 
 // A file's first bytes, or that it cannot be opened or read, as a folder cannot.
-#[derive(Drop)]
+#[derive(Clone, Copy)]
 pub enum Contents {
     Bytes(usize),
     NotOpened,

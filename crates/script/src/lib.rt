@@ -1,4 +1,5 @@
 // Scripts and what lies on the desk: lines, words and numbers, the text of an answer, what came of each line, the book's bytes and the figures. It asks nothing of the layers.
+#![tactic(auto)]
 mod books;
 mod figures;
 mod files;

@@ -2,7 +2,7 @@
 use std::num::wrapping_add_usize;
 
 // Bytes `at` to `end` of the block are still to be taken. A line longer than its room has a length greater than that. Whether it is the last, and whether the file could not be read on.
-#[derive(Drop)]
+#[derive(Clone, Copy)]
 pub struct Taken {
     pub at: usize,
     pub end: usize,
@@ -26,7 +26,7 @@ fn put_byte(line: &mut [u8], at: usize, byte: u8) -> usize {
     wrapping_add_usize(line.len(), 1)
 }
 
-#[derive(Drop)]
+#[derive(Clone, Copy)]
 struct Place {
     at: usize,
     end: usize,

@@ -8,7 +8,7 @@ use check::same;
 use std::num::{wrapping_add_u64, wrapping_add_usize, wrapping_sub_usize};
 
 // What came of a line.
-#[derive(Drop)]
+#[derive(Clone, Copy)]
 pub enum Came {
     Unasked,
     AsExpected,
@@ -88,7 +88,7 @@ pub fn show(name: &[u8], place: u64, answered: &[u8], said: Said) -> Came {
 }
 
 // How far a script has come: bytes `at` to `end` of the block are left, and so many lines are answered.
-#[derive(Drop)]
+#[derive(Clone, Copy)]
 pub struct Progress {
     pub at: usize,
     pub end: usize,

@@ -3,7 +3,7 @@ use libc::STDOUT_FILENO;
 use std::num::wrapping_add_usize;
 
 // The length of an answer in the text, whether the line could be read and done, and whether there is nothing to say.
-#[derive(Drop)]
+#[derive(Clone, Copy)]
 pub struct Said {
     pub length: usize,
     pub clear: bool,

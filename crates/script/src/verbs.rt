@@ -3,7 +3,7 @@ use super::books::BOOK_ROOM;
 use super::figures::LENT_ROOM;
 use super::words::{MOST, Wanted, place_in};
 
-#[derive(Drop)]
+#[derive(Clone, Copy)]
 pub enum Verb {
     Open,
     Save,
@@ -31,7 +31,7 @@ pub enum Verb {
 }
 
 // What follows the verb.
-#[derive(Drop)]
+#[derive(Clone, Copy)]
 pub enum Object {
     Unknown,
     File,

@@ -117,7 +117,7 @@ pub fn place_in(word: &[u8], list: &[u8]) -> usize {
     place
 }
 
-#[derive(Drop)]
+#[derive(Clone, Copy)]
 enum Number {
     Is(u64),
     Unclear,
@@ -164,7 +164,7 @@ fn number_of(word: &[u8]) -> Number {
 }
 
 // What the numbers of a line may be: so many of them, each up to a limit.
-#[derive(Drop)]
+#[derive(Clone, Copy)]
 pub struct Wanted {
     pub least: usize,
     pub most: usize,
@@ -172,7 +172,7 @@ pub struct Wanted {
 }
 
 // How the numbers of a line were read.
-#[derive(Drop)]
+#[derive(Clone, Copy)]
 pub enum Reading {
     Clear(usize),
     NotANumber,
@@ -181,7 +181,7 @@ pub enum Reading {
     TooFew,
 }
 
-#[derive(Drop)]
+#[derive(Clone, Copy)]
 enum Put {
     Done,
     NotANumber,

@@ -1,4 +1,5 @@
 // Search: the labels of every turn and every link from one origin, and the routes that are read from them.
+#![tactic(auto)]
 use book::{LinkNumber, Refusal, TurnNumber};
 
 mod arriving;
@@ -28,7 +29,7 @@ pub use searching::{given_back, search};
 pub use tests::{length_test, node_test};
 
 // Cost, number of links and back of one entry.
-#[derive(Drop)]
+#[derive(Clone, Copy)]
 pub struct Label {
     pub cost: u32,
     pub links: u16,
@@ -36,35 +37,35 @@ pub struct Label {
 }
 
 // The turn to settle next.
-#[derive(Drop)]
+#[derive(Clone, Copy)]
 pub enum Picked {
     Turn(TurnNumber),
     Nothing,
 }
 
 // The last link, cost and number of links of the best way into a destination.
-#[derive(Drop)]
+#[derive(Clone, Copy)]
 pub enum Arrival {
     By(LinkNumber, u32, u16),
     Nothing,
 }
 
 // What a search answers: every entry is written, or a test refuses and nothing is.
-#[derive(Drop)]
+#[derive(Clone, Copy)]
 pub enum Searched {
     Done,
     Refused(Refusal),
 }
 
 // What a route answers: cost and number of links of the chosen walk, or a refusal.
-#[derive(Drop)]
+#[derive(Clone, Copy)]
 pub enum Routed {
     Done(u32, u16),
     Refused(Refusal),
 }
 
 // An answer's number, place, cost and number of links.
-#[derive(Drop)]
+#[derive(Clone, Copy)]
 pub struct RouteFigures {
     pub number: u8,
     pub place: usize,

@@ -1,4 +1,5 @@
 // The sheets: the one line that the route printer prints for an input, and the lines of the fare printer.
+#![tactic(auto)]
 mod asking;
 mod decimals;
 mod faring;
@@ -11,7 +12,7 @@ pub use asking::sheet;
 pub use faring::fare_sheet;
 
 // What a sheet answers: how many bytes are printed, or that the lent text is shorter than the longest that may be.
-#[derive(Drop)]
+#[derive(Clone, Copy)]
 pub enum Sheeted {
     Line(usize),
     NoRoom,

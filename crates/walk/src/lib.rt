@@ -1,4 +1,5 @@
 // Walks over a checked book: the figures that their rules read, which walks are permitted, and what they cost.
+#![tactic(auto)]
 use book::Refusal;
 
 mod figures;
@@ -24,14 +25,14 @@ pub use turns::{followers, turn_of};
 pub use walks::read_walks;
 
 // The entries from `start` up to `end` of a table.
-#[derive(Drop)]
+#[derive(Clone, Copy)]
 pub struct Run {
     pub start: u16,
     pub end: u16,
 }
 
 // What stands between two successive turns of a walk.
-#[derive(Drop)]
+#[derive(Clone, Copy)]
 pub enum Between {
     Listed(u16),
     Forbidden,
@@ -40,14 +41,14 @@ pub enum Between {
 }
 
 // A turn after another: it may not come, or it adds these seconds.
-#[derive(Drop)]
+#[derive(Clone, Copy)]
 pub enum Step {
     Barred,
     Seconds(u32),
 }
 
 // Where the minutes of a walk go, in seconds.
-#[derive(Drop)]
+#[derive(Clone, Copy)]
 pub struct Split {
     pub ride: u32,
     pub wait: u32,
@@ -56,7 +57,7 @@ pub struct Split {
 }
 
 // What asking for the cost of a given walk answers: of a permitted one the cost, and the four figures that make it up.
-#[derive(Drop)]
+#[derive(Clone, Copy)]
 pub enum Costed {
     Refused(Refusal),
     TooLong,

@@ -15,7 +15,7 @@ use super::{Between, Split};
 use book::{Counts, LinkNumber, TurnNumber};
 
 // A walk that one more link was added to: it stops, or it goes on by this turn, which adds these figures.
-#[derive(Drop)]
+#[derive(Clone, Copy)]
 pub enum Advanced {
     Stopped,
     Onward(u16, Split),

@@ -13,5 +13,3 @@ pub mod NumberWritten
 pub mod WalkWritten
 pub mod BookA
 pub mod Determined
-pub mod ByHand
-pub mod FieldRead

@@ -1,5 +1,6 @@
 // The day book: whether it is good, what its fields say, and the write of one turn's walk.
 #![tactic(auto)]
+
 mod carried;
 mod checks;
 mod entries;

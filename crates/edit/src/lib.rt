@@ -1,5 +1,6 @@
 // Edit: one change of a turn's walk, with the labels of the edited book.
 #![tactic(auto)]
+
 use book::Refusal;
 
 mod counting;

@@ -1,5 +1,6 @@
 // The fare: what the route that was found costs in won, by the distance fare of document 000.
 #![tactic(auto)]
+
 use book::Refusal;
 
 mod amounts;

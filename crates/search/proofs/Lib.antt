@@ -25,7 +25,3 @@ pub mod Determined
 pub mod NoRouteA
 pub mod SearchesRefused
 pub mod RoutesRefused
-pub mod Carrying
-pub mod LentOn
-pub mod LabelArguments
-pub mod RouteArguments

@@ -1,5 +1,6 @@
 // Search: the labels of every turn and every link from one origin, and the routes that are read from them.
 #![tactic(auto)]
+
 use book::{LinkNumber, Refusal, TurnNumber};
 
 mod arriving;

@@ -1,5 +1,6 @@
 // The sheets: the one line that the route printer prints for an input, and the lines of the fare printer.
 #![tactic(auto)]
+
 mod asking;
 mod decimals;
 mod faring;

@@ -26,5 +26,4 @@ pub mod CasesHold
 pub mod SheetsRefused
 pub mod LabelledTrue
 pub mod SplitsRefused
-pub mod ReadOn
 pub mod theory

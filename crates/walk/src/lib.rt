@@ -1,5 +1,6 @@
 // Walks over a checked book: the figures that their rules read, which walks are permitted, and what they cost.
 #![tactic(auto)]
+
 use book::Refusal;
 
 mod figures;

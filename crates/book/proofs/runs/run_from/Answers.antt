@@ -1,0 +1,17 @@
+-- The two ends close in on the first entry of the run.
+use Prim.Native.Nat.{◌-◌}
+use borrow.Author.Rules.{rules}
+use Rattle.book.proofs.Halving.{Halved, whole, upper, lower, met}
+use Rattle.book.proofs.runs.run_from.Goals as goal
+
+pub halving-init : goal.halving-init
+halving-init c = whole _ _ _
+
+pub halving-preserved-then-first-n : goal.halving-preserved-then-first-n
+halving-preserved-then-first-n c = upper _ _ _ c.requires.by_index _ _ _ c.halving.invariant (search rules) (search rules) (search rules)
+
+pub halving-preserved : goal.halving-preserved
+halving-preserved c = lower _ _ _ c.requires.by_index _ _ _ c.halving.invariant (search rules) (search rules) (search rules)
+
+pub returns : goal.returns
+returns c = met _ _ _ _ _ c.halving.invariant (search rules)

@@ -1,0 +1,9 @@
+-- The code is the definition.
+use borrow.Author.Rules.{rules}
+use mathlib.Core.Path.{refl}
+use Rattle.edit.specs.steps.KeptLabels.{kept_entry}
+use Rattle.edit.proofs.keeping.kept_label.Goals as goal
+
+pub returns : goal.returns
+unfolding kept_entry
+returns c = refl

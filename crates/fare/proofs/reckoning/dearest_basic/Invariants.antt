@@ -1,0 +1,22 @@
+use Prim.Native.Nat.{◌-◌, ◌≤◌, ◌<◌}
+use mathlib.Core.Path.{◌≡◌, refl, sym, ◌∙◌}
+use native.Mathlib.Omega.{arith}
+use borrow.Author.Rules.{rules}
+use borrow.Author.Tests.{ltb-true}
+use lib.ListN.{length, drop}
+use lib.Dec.{ltb}
+use Rattle.book.specs.Tables.{link_table}
+use Rattle.book.specs.Entries.{link_line}
+use Rattle.fare.specs.Amounts.{dearer}
+use Rattle.fare.specs.Fares.{basic_in}
+use Rattle.fare.specs.Fare.{dearest}
+use Rattle.fare.proofs.Dearer.{none_dearer}
+use Rattle.fare.proofs.GoodFares.{each}
+use Rattle.fare.proofs.FareLaws.{dearest_on, dearest_end}
+use Rattle.fare.proofs.reckoning.dearest_basic.Given as goal
+
+abbrev pub invariant-loop-passed : goal.invariant-loop-passed
+invariant-loop-passed l = (l.passed ≤ length l.links) × (dearest (λ link. basic_in l.counts.links l.table (link_line (link_table l.book l.counts) link)) l.links ≡ dearer l.basic (dearest (λ link. basic_in l.counts.links l.table (link_line (link_table l.book l.counts) link)) (drop l.passed l.links)))
+
+abbrev pub decreases-loop-passed : goal.decreases-loop-passed
+decreases-loop-passed l = length l.links - l.passed

@@ -1,0 +1,13 @@
+use Prim.Native.Nat.{◌-◌, ◌≤◌}
+use borrow.Author.Rules.{rules}
+use lib.ListN.{length}
+use mathlib.Core.Path.{◌≡◌}
+use native.Mathlib.Omega.{arith}
+use Rattle.search.proofs.LeastCandidate.{Holding, held_below, with_turn_lem, all_passed}
+use Rattle.search.proofs.picking.pick.Given as goal
+
+abbrev pub invariant-turns : goal.invariant-turns
+invariant-turns l = Holding l.cost l.links l.settled l.turn l.least × (l.turn ≤ length l.cost)
+
+abbrev pub decreases-turns : goal.decreases-turns
+decreases-turns l = length l.cost - l.turn

@@ -1,0 +1,6 @@
+-- Ride and wait of the link; no turn was passed.
+use borrow.Author.Rules.{rules}
+use Rattle.walk.proofs.splits.link_split.Goals as goal
+
+pub returns : goal.returns
+returns c = rw (c.link_wait-wait.ensures, c.link_ride-ride.ensures)

@@ -1,0 +1,6 @@
+-- The test of the walk, and that of what stands between.
+use borrow.Author.Rules.{rules}
+use Rattle.walk.proofs.steps.may_step.Goals as goal
+
+pub returns : goal.returns
+returns c = rw c.allowed.ensures

@@ -1,0 +1,17 @@
+use Prim.Native.Nat.{◌-◌, ◌≤◌}
+use borrow.Author.Rules.{rules}
+use lib.ListN.{length}
+use mathlib.Core.Path.{◌≡◌, refl}
+use native.Mathlib.Omega.{arith}
+use Rattle.book.specs.Entries.{turn_walk}
+use Rattle.book.specs.Tables.{turn_table}
+use Rattle.walk.specs.View.{up_to}
+use Rattle.book.proofs.GoodBook.{good_book}
+use Rattle.walk.proofs.Filling.{Filled, one_filled, all_filled}
+use Rattle.walk.proofs.walks.read_walks.Given as goal
+
+abbrev pub invariant-turns : goal.invariant-turns
+invariant-turns l = (length l.walks ≡ length l.initial.walks) × (l.turn ≤ l.turns) × Filled (turn_walk (turn_table l.book l.counts)) l.walks l.turn
+
+abbrev pub decreases-turns : goal.decreases-turns
+decreases-turns l = l.turns - l.turn

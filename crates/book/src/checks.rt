@@ -63,6 +63,7 @@ fn check_tables(book: &[u8], counts: Counts) -> Checked
     check_parts(lines, links, turns, pairs, counts)
 }
 
+#[tactic(auto, unfolding(crate::specs::Check::check_of))]
 pub fn check(book: &[u8]) -> Checked
     ensures { result ≡ check_of book.now }
 {

@@ -89,7 +89,7 @@ first_wait U (l ∷ rest) = link_wait U l
 
 -- and where the turn into a link has a walk above 0 or joins two lines
 abbrev pub boarding : ℕ → ℕ → ℕ → Bool
-boarding walk line_Before line = ltb 0 walk || not (eqb line_Before line)
+boarding walk line_before line = ltb 0 walk || not (eqb line_before line)
 
 abbrev pub boards : View → ℕ → Bool
 boards U t = boarding (U.walk t) (U.line (U.first t)) (U.line (U.second t))

@@ -11,6 +11,7 @@ use script::{
     within_figures, within_numbers, word_end,
 };
 use search::cost_of;
+use std::rt::Files;
 
 fn say_check(book: &[u8], length: usize, text: &mut [u8]) -> Said {
     let end = within(length, book);
@@ -123,6 +124,7 @@ fn answer_buffer(
 }
 
 pub fn answer_line(
+    rt: &impl Files,
     line: &[u8],
     numbers: &mut [u32],
     book: &mut [u8],
@@ -134,8 +136,8 @@ pub fn answer_line(
     let words = trimmed(&line[end..]);
     match object_of(verb) {
         Object::Unknown => fault(text, b"no such question"),
-        Object::File => handle_file(verb, words, book, figures, text),
-        Object::Printed => print_file(verb, words, text),
+        Object::File => handle_file(rt, verb, words, book, figures, text),
+        Object::Printed => print_file(rt, verb, words, text),
         Object::Buffer => answer_buffer(verb, words, numbers, book, figures, text),
         Object::Numbers => answer_words(verb, NO_BUFFER, words, numbers, book, figures, text),
     }

@@ -5,7 +5,6 @@ use script::{
     BASIC_DISTANCE, FARES, LENT_ROOM, LINK_COST, PREMIUM, ROUTE, STEP, TURN_COST, buffer_part,
     copy, copy_narrow, keep_costs, keep_numbers, lent, size_of, within_figures, within_numbers,
 };
-use std::num::wrapping_add_usize;
 
 // How many numbers are lent of a table's three buffers.
 #[derive(Clone, Copy)]
@@ -19,8 +18,8 @@ struct Lent {
 fn lent_of(book: &[u8], figures: &[u32], first: usize) -> Lent {
     Lent {
         costs: lent(book, figures, first),
-        links: lent(book, figures, wrapping_add_usize(first, 1)),
-        backs: lent(book, figures, wrapping_add_usize(first, 2)),
+        links: lent(book, figures, first.wrapping_add(1)),
+        backs: lent(book, figures, first.wrapping_add(2)),
     }
 }
 
@@ -34,11 +33,11 @@ fn take_table(
 ) {
     copy(buffer_part(figures, first, size.costs), cost);
     copy_narrow(
-        buffer_part(figures, wrapping_add_usize(first, 1), size.links),
+        buffer_part(figures, first.wrapping_add(1), size.links),
         links,
     );
     copy_narrow(
-        buffer_part(figures, wrapping_add_usize(first, 2), size.backs),
+        buffer_part(figures, first.wrapping_add(2), size.backs),
         back,
     );
 }
@@ -52,8 +51,8 @@ fn keep_table(
     back: &[u16],
 ) {
     keep_costs(figures, first, cost, size.costs);
-    keep_numbers(figures, wrapping_add_usize(first, 1), links, size.links);
-    keep_numbers(figures, wrapping_add_usize(first, 2), back, size.backs);
+    keep_numbers(figures, first.wrapping_add(1), links, size.links);
+    keep_numbers(figures, first.wrapping_add(2), back, size.backs);
 }
 
 pub fn terms_now(figures: &[u32]) -> Terms {

@@ -1,5 +1,6 @@
 // The travel desk: each line of a script is a question, and its answer is a line.
 #![tactic(auto)]
+
 mod answering;
 mod asking;
 mod lending;
@@ -7,37 +8,43 @@ mod printing;
 mod saying;
 mod scripts;
 
-use libc::STDIN_FILENO;
-use script::{BOOK_ROOM, FIGURES, NUMBERS_ROOM, larger, print, print_tally, put_words, within};
+use script::{
+    BOOK_ROOM, FIGURES, NUMBERS_ROOM, larger, open_file, print, print_tally, put_words, within,
+};
 use scripts::run_script;
+use std::env::{Env, FillError};
+use std::io;
+
+const BLOCK_ROOM: usize = 65536;
 
 const LINE_ROOM: usize = 262144;
 
 // The longest answer is all the turns of a full book.
 const TEXT_ROOM: usize = 98304;
 
+// The system opens no longer name.
+const NAME_ROOM: usize = 4096;
+
 // The name of the script that an argument gives; where none does, of standard input.
-fn named(which: usize, path: &mut [u8]) -> usize {
+fn named(rt: &impl Env, which: usize, path: &mut [u8]) -> usize {
     if which == 0 {
         return put_words(path, 0, b"standard input");
     }
-    os::arg(which, path)
-}
-
-fn opened(which: usize, name: &[u8]) -> i32 {
-    if which == 0 {
-        return STDIN_FILENO;
+    match rt.arg(which, path) {
+        Ok(length) => length,
+        // a longer one is no file's name
+        Err(_) => 0,
     }
-    os::open_read(name)
 }
 
-fn say_closed(name: &[u8]) {
-    print(name);
-    print(b": cannot be opened\n");
-    print_tally(name, 0, 1);
+fn say_closed(rt: &impl Print, name: &[u8]) -> io::Result<()> {
+    print(rt, name)?;
+    print(rt, b": cannot be opened\n")?;
+    print_tally(rt, name, 0, 1)
 }
 
 fn run_argument(
+    rt: &HostRuntime,
     which: usize,
     block: &mut [u8],
     line: &mut [u8],
@@ -45,29 +52,27 @@ fn run_argument(
     book: &mut [u8],
     figures: &mut [u32],
     text: &mut [u8],
-) {
-    let mut path = io::buffer();
-    let length = named(which, &mut path);
+) -> io::Result<()> {
+    let mut path = [0u8; NAME_ROOM];
+    let length = named(rt, which, &mut path);
     let end = within(length, &path);
-    let file = opened(which, &path[..end]);
-    if file < 0 {
-        say_closed(&path[..end]);
-        return;
+    let name = &path[..end];
+    if which == 0 {
+        let mut input = rt.stdin();
+        return run_script(
+            rt, &mut input, name, block, line, numbers, book, figures, text,
+        );
     }
-    run_script(
-        file,
-        &path[..end],
-        block,
-        line,
-        numbers,
-        book,
-        figures,
-        text,
-    );
-    libc::close(file);
+    match open_file(rt, name) {
+        Ok(mut file) => run_script(
+            rt, &mut file, name, block, line, numbers, book, figures, text,
+        ),
+        Err(_) => say_closed(rt, name),
+    }
 }
 
 fn run_arguments(
+    rt: &HostRuntime,
     from: usize,
     count: usize,
     block: &mut [u8],
@@ -76,12 +81,22 @@ fn run_arguments(
     book: &mut [u8],
     figures: &mut [u32],
     text: &mut [u8],
-) {
-    let mut which = from;
-    'scripts: while which < count {
-        run_argument(which, block, line, numbers, book, figures, text);
-        which += 1;
+) -> io::Result<()> {
+    for which in from..count {
+        run_argument(rt, which, block, line, numbers, book, figures, text)?;
     }
+    Ok(())
+}
+
+// How many arguments there are: one that is there has no room in no bytes, or is empty.
+fn count_arguments(rt: &impl Env) -> usize {
+    for which in 0..usize::MAX {
+        match rt.arg(which, &mut []) {
+            Err(FillError::NotPresent) => return which,
+            _ => {}
+        }
+    }
+    usize::MAX
 }
 
 // The program's own name is its only argument where no script is named: standard input is then the script.
@@ -92,16 +107,17 @@ fn first_of(count: usize) -> usize {
     1
 }
 
-fn main() {
-    let count = larger(os::arg_count(), 1);
+fn main(rt: HostRuntime) -> io::Result<()> {
+    let count = larger(count_arguments(&rt), 1);
     let from = first_of(count);
-    let mut block = io::large_buffer();
+    let mut block = [0u8; BLOCK_ROOM];
     let mut line = [0u8; LINE_ROOM];
     let mut numbers = [0u32; NUMBERS_ROOM];
     let mut book = [0u8; BOOK_ROOM];
     let mut figures = [0u32; FIGURES];
     let mut text = [0u8; TEXT_ROOM];
     run_arguments(
+        &rt,
         from,
         count,
         &mut block,
@@ -110,5 +126,5 @@ fn main() {
         &mut book,
         &mut figures,
         &mut text,
-    );
+    )
 }

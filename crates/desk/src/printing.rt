@@ -1,6 +1,7 @@
 // The printers' lines for a file's bytes as their input.
 use script::{Contents, FILE_ROOM, Said, Verb, answer, fault, put_lines, read_file, within};
 use sheet::{Sheeted, fare_sheet, sheet};
+use std::rt::Files;
 
 // The longest text of a fare sheet.
 const LINES_ROOM: usize = 20557;
@@ -23,9 +24,9 @@ fn say_sheet(verb: Verb, input: &[u8], text: &mut [u8]) -> Said {
     }
 }
 
-pub fn print_file(verb: Verb, name: &[u8], text: &mut [u8]) -> Said {
+pub fn print_file(rt: &impl Files, verb: Verb, name: &[u8], text: &mut [u8]) -> Said {
     let mut input = [0u8; FILE_ROOM];
-    match read_file(name, &mut input) {
+    match read_file(rt, name, &mut input) {
         Contents::NotOpened => fault(text, b"file cannot be opened"),
         Contents::Bytes(count) => {
             let end = within(count, &input);

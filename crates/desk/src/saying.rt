@@ -31,15 +31,8 @@ fn put_where(text: &mut [u8], at: usize, figure: u64, wanted: bool) -> usize {
 // An answer's figures as far as it has them; what lies past them is 0, and would be said if it were not.
 fn put_others(text: &mut [u8], from: usize, figures: [u64; MOST_FIGURES], count: usize) -> usize {
     let mut at = from;
-    let mut passed = 0;
-    while passed < MOST_FIGURES {
-        at = put_where(
-            text,
-            at,
-            figures[passed],
-            (passed < count) | (figures[passed] != 0),
-        );
-        passed += 1;
+    for (passed, figure) in figures.iter().enumerate() {
+        at = put_where(text, at, *figure, (passed < count) | (*figure != 0));
     }
     at
 }

@@ -4,9 +4,12 @@ use script::{
     Came, Progress, after, clear_desk, count_broken, hold, lines_left, onward, print_tally,
     said_in, show, start, take_line, trimmed, unclear, within, word_with,
 };
-use std::num::wrapping_add_u64;
+use std::io;
+use std::io::Read;
+use std::rt::Files;
 
-fn settle(
+fn settle<R: Files + Print>(
+    rt: &R,
     name: &[u8],
     place: u64,
     line: &[u8],
@@ -15,26 +18,27 @@ fn settle(
     book: &mut [u8],
     figures: &mut [u32],
     text: &mut [u8],
-) -> Came {
+) -> io::Result<Came> {
     if line.len() < length {
-        return show(name, place, b"line too long", unclear(0));
+        return show(rt, name, place, b"line too long", unclear(0));
     }
     let said = said_in(line, length);
     if said.len() == 0 {
-        return Came::Unasked;
+        return Ok(Came::Unasked);
     }
     let sign = word_with(said, b'=');
     let question = trimmed(&said[..sign]);
-    let answered = answer_line(question, numbers, book, figures, text);
+    let answered = answer_line(rt, question, numbers, book, figures, text);
     let end = within(answered.length, text);
     if said.len() <= sign {
-        return show(name, place, &text[..end], answered);
+        return show(rt, name, place, &text[..end], answered);
     }
-    hold(name, place, question, after(said, sign), &text[..end])
+    hold(rt, name, place, question, after(said, sign), &text[..end])
 }
 
-fn answer_next(
-    file: i32,
+fn answer_next<R: Files + Print>(
+    rt: &R,
+    file: &mut impl Read,
     name: &[u8],
     before: Progress,
     block: &mut [u8],
@@ -43,10 +47,11 @@ fn answer_next(
     book: &mut [u8],
     figures: &mut [u32],
     text: &mut [u8],
-) -> Progress {
+) -> io::Result<Progress> {
     let taken = take_line(file, block, before.at, before.end, line);
-    let place = wrapping_add_u64(before.lines, 1);
+    let place = before.lines.wrapping_add(1);
     let came = settle(
+        rt,
         name,
         place,
         line,
@@ -55,12 +60,13 @@ fn answer_next(
         book,
         figures,
         text,
-    );
-    count_broken(name, onward(before, taken, came), taken.broken)
+    )?;
+    count_broken(rt, name, onward(before, taken, came), taken.broken)
 }
 
-pub fn run_script(
-    file: i32,
+pub fn run_script<R: Files + Print>(
+    rt: &R,
+    file: &mut impl Read,
     name: &[u8],
     block: &mut [u8],
     line: &mut [u8],
@@ -68,16 +74,16 @@ pub fn run_script(
     book: &mut [u8],
     figures: &mut [u32],
     text: &mut [u8],
-) {
+) -> io::Result<()> {
     // no script finds what another one left
     clear_desk(book, figures);
     let mut progress = start();
     let mut left = u64::MAX;
     'lines: while 0 < left {
         progress = answer_next(
-            file, name, progress, block, line, numbers, book, figures, text,
-        );
+            rt, file, name, progress, block, line, numbers, book, figures, text,
+        )?;
         left = lines_left(progress.over, left);
     }
-    print_tally(name, progress.right, progress.wrong);
+    print_tally(rt, name, progress.right, progress.wrong)
 }

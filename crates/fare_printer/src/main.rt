@@ -1,18 +1,18 @@
 // The fare printer: the two nodes, the terms of the fares, book and fare table from standard input, a route's line and its fare to standard output.
 #![tactic(auto)]
-use libc::{STDIN_FILENO, STDOUT_FILENO};
-use sheet::{Sheeted, fare_sheet};
 
-// Any longer input has the same answer as its first 65,536 bytes, which the buffer holds (`fare-read-says` in the sheet's FareOverLong).
-fn main() {
-    let mut input = io::large_buffer();
-    let length = io::read_full(STDIN_FILENO, &mut input);
-    let mut text = io::large_buffer();
+use script::read_full;
+use sheet::{Sheeted, fare_sheet};
+use std::io;
+
+// Any longer input has the same answer as its first 65,536 bytes, which the buffer holds (`fare_read_says` in the sheet's FareOverLong).
+fn main(rt: HostRuntime) -> io::Result<()> {
+    let mut input = [0u8; 65536];
+    let length = read_full(&mut rt.stdin(), &mut input)?;
+    let mut text = [0u8; 65536];
     match fare_sheet(&input[..length], &mut text) {
-        Sheeted::Line(end) => {
-            io::write_all(STDOUT_FILENO, &text[..end]);
-        }
-        // This does not happen: the text has room for the longest (`fare-always-room` in the sheet's Printed).
-        Sheeted::NoRoom => {}
+        Sheeted::Line(end) => rt.write_all(&text[..end]),
+        // This does not happen: the text has room for the longest (`fare_always_room` in the sheet's Printed).
+        Sheeted::NoRoom => Ok(()),
     }
 }

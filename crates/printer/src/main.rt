@@ -1,18 +1,18 @@
 // The route printer: origin, destination and book from standard input, one line to standard output.
 #![tactic(auto)]
-use libc::{STDIN_FILENO, STDOUT_FILENO};
-use sheet::{Sheeted, sheet};
 
-// The buffer holds more than the largest book, and any longer input has the same answer as its first 65,536 bytes (`read-says` in the sheet's OverLong).
-fn main() {
-    let mut input = io::large_buffer();
-    let length = io::read_full(STDIN_FILENO, &mut input);
-    let mut text = io::large_buffer();
+use script::read_full;
+use sheet::{Sheeted, sheet};
+use std::io;
+
+// The buffer holds more than the largest book, and any longer input has the same answer as its first 65,536 bytes (`read_says` in the sheet's OverLong).
+fn main(rt: HostRuntime) -> io::Result<()> {
+    let mut input = [0u8; 65536];
+    let length = read_full(&mut rt.stdin(), &mut input)?;
+    let mut text = [0u8; 65536];
     match sheet(&input[..length], &mut text) {
-        Sheeted::Line(end) => {
-            io::write_all(STDOUT_FILENO, &text[..end]);
-        }
-        // This does not happen: the text has room for the longest line (`always-room` in the sheet's Printed).
-        Sheeted::NoRoom => {}
+        Sheeted::Line(end) => rt.write_all(&text[..end]),
+        // This does not happen: the text has room for the longest line (`always_room` in the sheet's Printed).
+        Sheeted::NoRoom => Ok(()),
     }
 }

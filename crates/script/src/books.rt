@@ -7,7 +7,6 @@ use super::figures::{
 };
 use super::parts::{size_at, smaller, within};
 use super::text::{Said, done, fault, put_words};
-use std::num::wrapping_add_usize;
 
 // A longer book is refused by its header alone.
 pub const BOOK_ROOM: usize = 65536;
@@ -21,10 +20,8 @@ const MOST_LINKS: usize = 2048;
 const MOST_TURNS: usize = 4096;
 
 fn nothing_lent(figures: &mut [u32]) {
-    let mut buffer = 0;
-    while buffer < LABEL_BUFFERS {
+    for buffer in 0..LABEL_BUFFERS {
         set_size(figures, buffer, AS_COUNTED);
-        buffer += 1;
     }
 }
 
@@ -108,10 +105,8 @@ fn put_byte(book: &mut [u8], at: usize, byte: u8) {
 
 // Noughts from this byte on.
 fn clear_from(book: &mut [u8], from: usize) {
-    let mut at = from;
-    while at < book.len() {
+    for at in from..book.len() {
         book[at] = 0;
-        at += 1;
     }
 }
 
@@ -140,16 +135,14 @@ pub fn set_length(book: &mut [u8], figures: &mut [u32], length: usize) -> Said {
 
 fn put_number(book: &mut [u8], at: usize, value: u32) {
     put_byte(book, at, (value % 256) as u8);
-    put_byte(book, wrapping_add_usize(at, 1), (value / 256 % 256) as u8);
+    put_byte(book, at.wrapping_add(1), (value / 256 % 256) as u8);
 }
 
 fn put_numbers(book: &mut [u8], from: usize, values: &[u32]) {
     let mut at = from;
-    let mut passed = 0;
-    while passed < values.len() {
-        put_number(book, at, values[passed]);
-        at = wrapping_add_usize(at, 2);
-        passed += 1;
+    for value in values {
+        put_number(book, at, *value);
+        at = at.wrapping_add(2);
     }
 }
 

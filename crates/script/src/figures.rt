@@ -2,7 +2,6 @@
 use super::parts::{narrow, size_at, within_figures, within_numbers};
 use super::text::{Said, above, answer, done, fault, put_figure, wide};
 use super::words::place_in;
-use std::num::wrapping_add_usize;
 
 // One more than the most turns, and as many as the longest route has links.
 pub const LENT_ROOM: usize = 4097;
@@ -90,10 +89,8 @@ pub fn set_size(figures: &mut [u32], which: usize, size: usize) {
 
 // Noughts in the first figures.
 pub fn clear(figures: &mut [u32], count: usize) {
-    let mut at = 0;
-    while at < count {
+    for at in 0..count {
         set_figure(figures, at, 0);
-        at += 1;
     }
 }
 
@@ -112,10 +109,8 @@ fn put_entry(
 
 fn put_entries(cost: &[u32], links: &[u32], back: &[u32], text: &mut [u8]) -> usize {
     let mut end = 0;
-    let mut entry = 0;
-    while entry < cost.len() {
+    for entry in 0..cost.len() {
         end = put_entry(cost, links, back, entry, text, end);
-        entry += 1;
     }
     end
 }
@@ -124,8 +119,8 @@ fn put_entries(cost: &[u32], links: &[u32], back: &[u32], text: &mut [u8]) -> us
 pub fn say_entries(figures: &[u32], first: usize, count: usize, text: &mut [u8]) -> Said {
     answer(put_entries(
         buffer_part(figures, first, count),
-        buffer_part(figures, wrapping_add_usize(first, 1), count),
-        buffer_part(figures, wrapping_add_usize(first, 2), count),
+        buffer_part(figures, first.wrapping_add(1), count),
+        buffer_part(figures, first.wrapping_add(2), count),
         text,
     ))
 }
@@ -142,8 +137,8 @@ pub fn say_entry(
     }
     answer(put_entry(
         buffer_part(figures, first, count),
-        buffer_part(figures, wrapping_add_usize(first, 1), count),
-        buffer_part(figures, wrapping_add_usize(first, 2), count),
+        buffer_part(figures, first.wrapping_add(1), count),
+        buffer_part(figures, first.wrapping_add(2), count),
         entry,
         text,
         0,
@@ -177,10 +172,8 @@ pub fn alter(
 
 // Costs into a buffer, as far as it goes.
 pub fn copy(costs: &[u32], target: &mut [u32]) {
-    let mut passed = 0;
-    while passed < costs.len() {
-        set_figure(target, passed, costs[passed]);
-        passed += 1;
+    for (at, cost) in costs.iter().enumerate() {
+        set_figure(target, at, *cost);
     }
 }
 
@@ -192,10 +185,8 @@ fn set_number(numbers: &mut [u16], at: usize, value: u16) {
 
 // Figures into a buffer of two-byte numbers, as far as it goes.
 pub fn copy_narrow(figures: &[u32], target: &mut [u16]) {
-    let mut passed = 0;
-    while passed < figures.len() {
-        set_number(target, passed, narrow(figures[passed]));
-        passed += 1;
+    for (at, figure) in figures.iter().enumerate() {
+        set_number(target, at, narrow(*figure));
     }
 }
 
@@ -205,10 +196,8 @@ fn widened(number: u16) -> u32 {
 
 // Two-byte numbers into a buffer of figures, as far as it goes.
 fn copy_wide(numbers: &[u16], target: &mut [u32]) {
-    let mut passed = 0;
-    while passed < numbers.len() {
-        set_figure(target, passed, widened(numbers[passed]));
-        passed += 1;
+    for (at, number) in numbers.iter().enumerate() {
+        set_figure(target, at, widened(*number));
     }
 }
 

@@ -1,11 +1,14 @@
 // Files: the book from one or into one, and the bytes of one.
+ghost use Rattle.std.specs.Io.{ReadsAtMost};
+
 use super::books::{BOOK_ROOM, take_book};
 use super::figures::{BOOK, size_of};
 use super::parts::within;
 use super::text::{Said, above, done, fault, say};
 use super::verbs::Verb;
-use check::same;
-use std::num::wrapping_add_usize;
+use std::io::{ErrorKind, Read};
+use std::rt::Files;
+use std::{fs, io, str};
 
 // One byte more than a book may have, so that a longer file is seen.
 pub const FILE_ROOM: usize = 65537;
@@ -17,29 +20,47 @@ pub enum Contents {
     NotOpened,
 }
 
-fn read_open(file: i32, bytes: &mut [u8]) -> Contents {
-    let got = libc::read(file, bytes);
-    if got < 0 {
-        return Contents::NotOpened;
+// A file's name is UTF-8: by another none can be opened.
+fn path_of(name: &[u8]) -> io::Result<&str> {
+    match str::from_utf8(name) {
+        Ok(path) => Ok(path),
+        Err(_) => Err(io::Error::from(ErrorKind::InvalidFilename)),
     }
-    let first = io::count(got, bytes);
-    let rest = io::read_full(file, &mut bytes[first..]);
-    let end = within(wrapping_add_usize(first, rest), bytes);
-    // where the bytes end before their room does, this says whether the file does too
-    if libc::read(file, &mut bytes[end..]) < 0 {
-        return Contents::NotOpened;
-    }
-    Contents::Bytes(end)
 }
 
-pub fn read_file(name: &[u8], bytes: &mut [u8]) -> Contents {
-    let file = os::open_read(name);
-    if file < 0 {
-        return Contents::NotOpened;
+pub fn open_file<R: Files>(rt: &R, name: &[u8]) -> io::Result<R::File> {
+    fs::open(rt, path_of(name)?)
+}
+
+// Reads until the bytes have no more room, or the file ends.
+pub fn read_full(file: &mut impl Read, bytes: &mut [u8]) -> io::Result<usize>
+    ensures { ReadsAtMost result bytes.new }
+{
+    let mut end = 0;
+    // nothing says that a file ends, so that the reads are counted to a number that no run comes to
+    'reads: for _ in 0..u64::MAX {
+        match file.read(&mut bytes[end..]) {
+            Ok(0) => return Ok(end),
+            Ok(got) => end += got,
+            Err(error) if error.kind() == ErrorKind::Interrupted => {}
+            Err(error) => return Err(error),
+        }
     }
-    let contents = read_open(file, bytes);
-    libc::close(file);
-    contents
+    Ok(end)
+}
+
+fn read_open(file: &mut impl Read, bytes: &mut [u8]) -> Contents {
+    match read_full(file, bytes) {
+        Ok(end) => Contents::Bytes(end),
+        Err(_) => Contents::NotOpened,
+    }
+}
+
+pub fn read_file(rt: &impl Files, name: &[u8], bytes: &mut [u8]) -> Contents {
+    match open_file(rt, name) {
+        Ok(mut file) => read_open(&mut file, bytes),
+        Err(_) => Contents::NotOpened,
+    }
 }
 
 fn open(bytes: &[u8], book: &mut [u8], figures: &mut [u32], text: &mut [u8]) -> Said {
@@ -51,27 +72,26 @@ fn open(bytes: &[u8], book: &mut [u8], figures: &mut [u32], text: &mut [u8]) -> 
 
 fn say_same(bytes: &[u8], book: &[u8], length: usize, text: &mut [u8]) -> Said {
     let end = within(length, book);
-    if same(bytes, &book[..end]) {
+    if bytes == &book[..end] {
         return say(text, b"yes");
     }
     say(text, b"no")
 }
 
-fn save(name: &[u8], book: &[u8], length: usize, text: &mut [u8]) -> Said {
-    let file = os::open_overwrite(name);
-    if file < 0 {
-        return fault(text, b"file cannot be written");
-    }
+fn write_file(rt: &impl Files, name: &[u8], bytes: &[u8]) -> io::Result<()> {
+    fs::write(rt, path_of(name)?, bytes)
+}
+
+fn save(rt: &impl Files, name: &[u8], book: &[u8], length: usize, text: &mut [u8]) -> Said {
     let end = within(length, book);
-    let whole = io::write_all(file, &book[..end]);
-    libc::close(file);
-    if whole {
-        return done();
+    match write_file(rt, name, &book[..end]) {
+        Ok(()) => done(),
+        Err(_) => fault(text, b"file cannot be written"),
     }
-    fault(text, b"file cannot be written")
 }
 
 fn open_or_compare(
+    rt: &impl Files,
     verb: Verb,
     name: &[u8],
     book: &mut [u8],
@@ -79,7 +99,7 @@ fn open_or_compare(
     text: &mut [u8],
 ) -> Said {
     let mut bytes = [0u8; FILE_ROOM];
-    match read_file(name, &mut bytes) {
+    match read_file(rt, name, &mut bytes) {
         Contents::NotOpened => fault(text, b"file cannot be opened"),
         Contents::Bytes(count) => {
             let end = within(count, &bytes);
@@ -93,6 +113,7 @@ fn open_or_compare(
 
 // The book and a file.
 pub fn handle_file(
+    rt: &impl Files,
     verb: Verb,
     name: &[u8],
     book: &mut [u8],
@@ -100,7 +121,7 @@ pub fn handle_file(
     text: &mut [u8],
 ) -> Said {
     match verb {
-        Verb::Save => save(name, book, size_of(figures, BOOK), text),
-        _ => open_or_compare(verb, name, book, figures, text),
+        Verb::Save => save(rt, name, book, size_of(figures, BOOK), text),
+        _ => open_or_compare(rt, verb, name, book, figures, text),
     }
 }

@@ -1,5 +1,6 @@
 // Scripts and what lies on the desk: lines, words and numbers, the text of an answer, what came of each line, the book's bytes and the figures. It asks nothing of the layers.
 #![tactic(auto)]
+
 mod books;
 mod figures;
 mod files;
@@ -16,7 +17,7 @@ pub use figures::{
     BASIC_DISTANCE, BOOK, FARES, FIGURES, LENT_ROOM, LINK_COST, NO_BUFFER, PREMIUM, ROUTE, STEP,
     TURN_COST, buffer_of, buffer_part, copy, copy_narrow, keep_costs, keep_numbers, size_of,
 };
-pub use files::{Contents, FILE_ROOM, handle_file, read_file};
+pub use files::{Contents, FILE_ROOM, handle_file, open_file, read_file, read_full};
 pub use handling::{handle, set_room};
 pub use parts::{from_place, larger, number_at, within, within_figures, within_numbers};
 pub use reading::{Taken, take_line};

@@ -1,5 +1,5 @@
 // The lines of a script, out of blocks of its bytes.
-use std::num::wrapping_add_usize;
+use std::io::Read;
 
 // Bytes `at` to `end` of the block are still to be taken. A line longer than its room has a length greater than that. Whether it is the last, and whether the file could not be read on.
 #[derive(Clone, Copy)]
@@ -23,7 +23,7 @@ fn put_byte(line: &mut [u8], at: usize, byte: u8) -> usize {
         line[at] = byte;
         return at + 1;
     }
-    wrapping_add_usize(line.len(), 1)
+    line.len().wrapping_add(1)
 }
 
 #[derive(Clone, Copy)]
@@ -34,7 +34,7 @@ struct Place {
 }
 
 // The next block where nothing of this one is left.
-fn filled(file: i32, block: &mut [u8], at: usize, end: usize) -> Place {
+fn filled(file: &mut impl Read, block: &mut [u8], at: usize, end: usize) -> Place {
     if at < end {
         return Place {
             at,
@@ -42,22 +42,33 @@ fn filled(file: i32, block: &mut [u8], at: usize, end: usize) -> Place {
             broken: false,
         };
     }
-    let got = libc::read(file, block);
-    Place {
-        at: 0,
-        end: io::count(got, block),
-        broken: got < 0,
+    match file.read(block) {
+        Ok(end) => Place {
+            at: 0,
+            end,
+            broken: false,
+        },
+        Err(_) => Place {
+            at: 0,
+            end: 0,
+            broken: true,
+        },
     }
 }
 
 // The bytes up to the next end of a line, or of the file.
-pub fn take_line(file: i32, block: &mut [u8], from: usize, until: usize, line: &mut [u8]) -> Taken {
+pub fn take_line(
+    file: &mut impl Read,
+    block: &mut [u8],
+    from: usize,
+    until: usize,
+    line: &mut [u8],
+) -> Taken {
     let mut at = from;
     let mut end = until;
     let mut length = 0;
-    // nothing says that a file ends, so that the bytes are counted down from a number that no run uses up
-    let mut left = u64::MAX;
-    'bytes: while 0 < left {
+    // nothing says that a file ends, so that the bytes are counted to a number that no run comes to
+    for _ in 0..u64::MAX {
         let place = filled(file, block, at, end);
         at = place.at;
         end = place.end;
@@ -82,7 +93,6 @@ pub fn take_line(file: i32, block: &mut [u8], from: usize, until: usize, line: &
             };
         }
         length = put_byte(line, length, byte);
-        left -= 1;
     }
     Taken {
         at,

@@ -4,8 +4,7 @@ ghost use Rattle.std.specs.Prelude.{◌<◌};
 use super::parts::within;
 use super::reading::{Taken, byte_at};
 use super::text::{Said, print, print_number};
-use check::same;
-use std::num::{wrapping_add_u64, wrapping_add_usize, wrapping_sub_usize};
+use std::io;
 
 // What came of a line.
 #[derive(Clone, Copy)]
@@ -15,25 +14,32 @@ pub enum Came {
     NotAsExpected,
 }
 
-fn print_place(name: &[u8], place: u64) {
-    print(name);
-    print(b", line ");
-    print_number(place);
-    print(b": ");
+fn print_place(rt: &impl Print, name: &[u8], place: u64) -> io::Result<()> {
+    print(rt, name)?;
+    print(rt, b", line ")?;
+    print_number(rt, place)?;
+    print(rt, b": ")
 }
 
-fn print_line(words: &[u8]) {
-    print(words);
-    print(b"\n");
+fn print_line(rt: &impl Print, words: &[u8]) -> io::Result<()> {
+    print(rt, words)?;
+    print(rt, b"\n")
 }
 
-fn print_unexpected(name: &[u8], place: u64, question: &[u8], expected: &[u8], answered: &[u8]) {
-    print_place(name, place);
-    print(question);
-    print(b" = ");
-    print(answered);
-    print(b", expected ");
-    print_line(expected);
+fn print_unexpected(
+    rt: &impl Print,
+    name: &[u8],
+    place: u64,
+    question: &[u8],
+    expected: &[u8],
+    answered: &[u8],
+) -> io::Result<()> {
+    print_place(rt, name, place)?;
+    print(rt, question)?;
+    print(rt, b" = ")?;
+    print(rt, answered)?;
+    print(rt, b", expected ")?;
+    print_line(rt, expected)
 }
 
 fn is_letter(byte: u8) -> bool {
@@ -45,46 +51,59 @@ fn is_digit(byte: u8) -> bool {
 }
 
 fn last_of(words: &[u8]) -> u8 {
-    byte_at(words, wrapping_sub_usize(words.len(), 1))
+    byte_at(words, words.len().wrapping_sub(1))
 }
 
 // Whether words begin at this place of an answer, after a blank.
 fn words_follow(answered: &[u8], at: usize) -> bool {
-    (byte_at(answered, at) == b' ') & is_letter(byte_at(answered, wrapping_add_usize(at, 1)))
+    (byte_at(answered, at) == b' ') & is_letter(byte_at(answered, at.wrapping_add(1)))
 }
 
 // The answer itself, or the figures of a refusal without their meaning.
 fn as_expected(answered: &[u8], expected: &[u8]) -> bool {
-    if same(answered, expected) {
+    if answered == expected {
         return true;
     }
     let end = within(expected.len(), answered);
-    if !same(&answered[..end], expected) {
+    if &answered[..end] != expected {
         return false;
     }
     words_follow(answered, end) & is_digit(last_of(expected))
 }
 
-pub fn hold(name: &[u8], place: u64, question: &[u8], expected: &[u8], answered: &[u8]) -> Came {
+pub fn hold(
+    rt: &impl Print,
+    name: &[u8],
+    place: u64,
+    question: &[u8],
+    expected: &[u8],
+    answered: &[u8],
+) -> io::Result<Came> {
     if as_expected(answered, expected) {
-        return Came::AsExpected;
+        return Ok(Came::AsExpected);
     }
-    print_unexpected(name, place, question, expected, answered);
-    Came::NotAsExpected
+    print_unexpected(rt, name, place, question, expected, answered)?;
+    Ok(Came::NotAsExpected)
 }
 
 // An answer that none is expected beside: a line that could not be read or done is never passed over.
-pub fn show(name: &[u8], place: u64, answered: &[u8], said: Said) -> Came {
+pub fn show(
+    rt: &impl Print,
+    name: &[u8],
+    place: u64,
+    answered: &[u8],
+    said: Said,
+) -> io::Result<Came> {
     if said.silent {
-        return Came::Unasked;
+        return Ok(Came::Unasked);
     }
     if said.clear {
-        print_line(answered);
-        return Came::Unasked;
+        print_line(rt, answered)?;
+        return Ok(Came::Unasked);
     }
-    print_place(name, place);
-    print_line(answered);
-    Came::NotAsExpected
+    print_place(rt, name, place)?;
+    print_line(rt, answered)?;
+    Ok(Came::NotAsExpected)
 }
 
 // How far a script has come: bytes `at` to `end` of the block are left, and so many lines are answered.
@@ -110,15 +129,20 @@ pub fn start() -> Progress {
 }
 
 // A file that cannot be read on is never passed over.
-pub fn count_broken(name: &[u8], progress: Progress, broken: bool) -> Progress {
+pub fn count_broken(
+    rt: &impl Print,
+    name: &[u8],
+    progress: Progress,
+    broken: bool,
+) -> io::Result<Progress> {
     if !broken {
-        return progress;
+        return Ok(progress);
     }
-    print_place(name, progress.lines);
-    print_line(b"cannot be read on");
+    print_place(rt, name, progress.lines)?;
+    print_line(rt, b"cannot be read on")?;
     let mut next = progress;
-    next.wrong = wrapping_add_u64(progress.wrong, 1);
-    next
+    next.wrong = progress.wrong.wrapping_add(1);
+    Ok(next)
 }
 
 // The progress after a line of which this came.
@@ -126,27 +150,27 @@ pub fn onward(before: Progress, taken: Taken, came: Came) -> Progress {
     let mut next = before;
     next.at = taken.at;
     next.end = taken.end;
-    next.lines = wrapping_add_u64(before.lines, 1);
+    next.lines = before.lines.wrapping_add(1);
     next.over = taken.last;
     match came {
         Came::Unasked => {}
         Came::AsExpected => {
-            next.right = wrapping_add_u64(before.right, 1);
+            next.right = before.right.wrapping_add(1);
         }
         Came::NotAsExpected => {
-            next.wrong = wrapping_add_u64(before.wrong, 1);
+            next.wrong = before.wrong.wrapping_add(1);
         }
     }
     next
 }
 
-pub fn print_tally(name: &[u8], right: u64, wrong: u64) {
-    print(name);
-    print(b": ");
-    print_number(right);
-    print(b" as expected, ");
-    print_number(wrong);
-    print(b" not\n");
+pub fn print_tally(rt: &impl Print, name: &[u8], right: u64, wrong: u64) -> io::Result<()> {
+    print(rt, name)?;
+    print(rt, b": ")?;
+    print_number(rt, right)?;
+    print(rt, b" as expected, ")?;
+    print_number(rt, wrong)?;
+    print(rt, b" not\n")
 }
 
 // Nothing says that a script ends, so that its lines are counted down from a number that no run uses up.

@@ -1,6 +1,5 @@
 // An answer, written into a text from a place on; each function answers the place after what it wrote, and writes nothing past the end.
-use libc::STDOUT_FILENO;
-use std::num::wrapping_add_usize;
+use io::decimal;
 
 // The length of an answer in the text, whether the line could be read and done, and whether there is nothing to say.
 #[derive(Clone, Copy)]
@@ -12,14 +11,12 @@ pub struct Said {
 
 pub fn put_words(text: &mut [u8], from: usize, words: &[u8]) -> usize {
     let mut at = from;
-    let mut passed = 0;
-    while passed < words.len() {
+    for byte in words {
         if text.len() <= at {
             return at;
         }
-        text[at] = words[passed];
+        text[at] = *byte;
         at += 1;
-        passed += 1;
     }
     at
 }
@@ -68,7 +65,7 @@ pub fn above(text: &mut [u8], words: &[u8], limit: u64) -> Said {
 // A figure, after a blank where it is not the first.
 pub fn put_figure(text: &mut [u8], from: usize, figure: u64) -> usize {
     let mut digits = [0u8; 20];
-    let count = io::decimal(figure, &mut digits);
+    let count = decimal(figure, &mut digits);
     if from == 0 {
         return put_words(text, from, &digits[..count]);
     }
@@ -82,20 +79,18 @@ pub fn wide(figure: u32) -> u64 {
 
 pub fn put_figures(text: &mut [u8], from: usize, figures: &[u32]) -> usize {
     let mut at = from;
-    let mut passed = 0;
-    while passed < figures.len() {
-        at = put_figure(text, at, wide(figures[passed]));
-        passed += 1;
+    for figure in figures {
+        at = put_figure(text, at, wide(*figure));
     }
     at
 }
 
-pub fn print(words: &[u8]) {
-    io::write_all(STDOUT_FILENO, words);
+pub fn print(rt: &impl Print, words: &[u8]) -> std::io::Result<()> {
+    rt.write_all(words)
 }
 
-pub fn print_number(number: u64) {
-    io::print_decimal(STDOUT_FILENO, number);
+pub fn print_number(rt: &impl Print, number: u64) -> std::io::Result<()> {
+    rt.print(number)
 }
 
 fn put_byte_where(text: &mut [u8], from: usize, byte: u8, wanted: bool) -> usize {
@@ -110,7 +105,7 @@ fn put_byte_where(text: &mut [u8], from: usize, byte: u8, wanted: bool) -> usize
 
 fn passed_with(passed: usize, byte: u8) -> usize {
     if byte == b';' {
-        return wrapping_add_usize(passed, 1);
+        return passed.wrapping_add(1);
     }
     passed
 }
@@ -119,12 +114,9 @@ fn passed_with(passed: usize, byte: u8) -> usize {
 pub fn put_meaning(text: &mut [u8], from: usize, which: usize, meanings: &[u8]) -> usize {
     let mut end = from;
     let mut passed = 0;
-    let mut at = 0;
-    while at < meanings.len() {
-        let byte = meanings[at];
-        end = put_byte_where(text, end, byte, passed == which);
-        passed = passed_with(passed, byte);
-        at += 1;
+    for byte in meanings {
+        end = put_byte_where(text, end, *byte, passed == which);
+        passed = passed_with(passed, *byte);
     }
     end
 }
@@ -149,12 +141,9 @@ fn put_line_byte(text: &mut [u8], from: usize, ended: bool, byte: u8) -> usize {
 pub fn put_lines(lines: &[u8], text: &mut [u8]) -> usize {
     let mut end = 0;
     let mut ended = false;
-    let mut at = 0;
-    while at < lines.len() {
-        let byte = lines[at];
-        end = put_line_byte(text, end, ended, byte);
-        ended = byte == b'\n';
-        at += 1;
+    for byte in lines {
+        end = put_line_byte(text, end, ended, *byte);
+        ended = *byte == b'\n';
     }
     end
 }

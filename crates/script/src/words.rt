@@ -3,7 +3,6 @@ ghost use Rattle.std.specs.Prelude.{◌≤◌, length};
 ghost use Rattle.io.specs.Counts.{IsPrefixLen};
 
 use super::parts::within;
-use check::same;
 
 // A walk longer than the longest that is costed, with its origin, and some.
 pub const NUMBERS_ROOM: usize = 65600;
@@ -24,14 +23,12 @@ pub fn word_end(line: &[u8], from: usize) -> usize
     requires { from ≤ length line.now }
     ensures { (from ≤ result) × (IsPrefixLen result line.now) }
 {
-    let mut at = from;
-    while at < line.len() {
+    for at in from..line.len() {
         if is_blank(line[at]) {
             return at;
         }
-        at += 1;
     }
-    at
+    line.len()
 }
 
 // Where a word begins from a place on, or the end.
@@ -39,28 +36,24 @@ fn word_from(line: &[u8], from: usize) -> usize
     requires { from ≤ length line.now }
     ensures { (from ≤ result) × (result ≤ length line.now) }
 {
-    let mut at = from;
-    while at < line.len() {
+    for at in from..line.len() {
         if !is_blank(line[at]) {
             return at;
         }
-        at += 1;
     }
-    at
+    line.len()
 }
 
 // Where the blanks at a line's end begin.
 fn blanks_from(line: &[u8]) -> usize
     ensures { IsPrefixLen result line.now }
 {
-    let mut end = line.len();
-    while 0 < end {
-        if !is_blank(line[end - 1]) {
-            return end;
+    for last in (0..line.len()).rev() {
+        if !is_blank(line[last]) {
+            return last + 1;
         }
-        end -= 1;
     }
-    end
+    0
 }
 
 // The line without the blanks at its two ends.
@@ -75,16 +68,14 @@ pub fn trimmed(line: &[u8]) -> &[u8] {
 pub fn word_with(line: &[u8], byte: u8) -> usize
     ensures { IsPrefixLen result line.now }
 {
-    let mut at = 0;
     let mut begins = true;
-    while at < line.len() {
+    for at in 0..line.len() {
         if begins & (line[at] == byte) {
             return at;
         }
         begins = is_blank(line[at]);
-        at += 1;
     }
-    at
+    line.len()
 }
 
 // Where the semicolon behind a word of a list stands, or the end.
@@ -92,14 +83,12 @@ fn item_end(list: &[u8], from: usize) -> usize
     requires { from ≤ length list.now }
     ensures { (from ≤ result) × (result ≤ length list.now) }
 {
-    let mut at = from;
-    while at < list.len() {
+    for at in from..list.len() {
         if list[at] == b';' {
             return at;
         }
-        at += 1;
     }
-    at
+    list.len()
 }
 
 // Which of the words of a list it is, each with a semicolon behind it; their number where it is none of them.
@@ -108,7 +97,7 @@ pub fn place_in(word: &[u8], list: &[u8]) -> usize {
     let mut from = 0;
     while from < list.len() {
         let end = item_end(list, from);
-        if same(word, &list[from..end]) {
+        if word == &list[from..end] {
             return place;
         }
         place += 1;
@@ -138,26 +127,24 @@ fn digit_of(byte: u8) -> u64
 
 // A word of digits; a number past every limit stays just past it.
 fn decimal_of(word: &[u8]) -> Number {
+    if word.is_empty() {
+        return Number::Unclear;
+    }
     let mut value = 0u64;
-    let mut at = 0;
-    while at < word.len() {
-        let digit = digit_of(word[at]);
+    for byte in word {
+        let digit = digit_of(*byte);
         if digit == 10 {
             return Number::Unclear;
         }
         if value <= MOST {
             value = 10 * value + digit;
         }
-        at += 1;
-    }
-    if at == 0 {
-        return Number::Unclear;
     }
     Number::Is(value)
 }
 
 fn number_of(word: &[u8]) -> Number {
-    if same(word, b"closed") {
+    if word == b"closed".as_slice() {
         return Number::Is(CLOSED);
     }
     decimal_of(word)

@@ -10,7 +10,7 @@ use lib.ListN.{length, get_or}
 use borrow.Author.Tests.{eq-eqb, ne_eqb}
 use Rattle.walk.specs.View.{View}
 use Rattle.walk.specs.Walks.{cost_of}
-use Rattle.walk.specs.Labels.{Key, key_of, Entry, Table, entry_at, start_back, no_entry, last_or, chosen, absent, TrueLink, TrueTable, NodeWalk, Route}
+use Rattle.walk.specs.Labels.{Key, key_of, Entry, Table, entry_at, start_back, no_entry, last_or, TrueLink, TrueTable, NodeWalk, Route}
 use Rattle.walk.specs.steps.Net as net-walks
 use Rattle.walk.specs.steps.Net.{Back, via, Entry as Reached, unreached, reached}
 use Rattle.walk.specs.steps.Sweep.{when, key_of as keyIn, mapped, offer, by_key, gather}

@@ -10,7 +10,7 @@ use lib.ListN.{length}
 use borrow.Author.Tests.{ne_eqb, eqb-true}
 use Rattle.book.proofs.Limits.{both}
 use Rattle.walk.specs.View.{View}
-use Rattle.walk.specs.Labels.{Key, LinkWalk, Entry, start_back, no_entry, chosen, absent, TrueTurn, TrueLink, Route, key_of, NodeWalk, last_or}
+use Rattle.walk.specs.Labels.{Key, Entry, start_back, no_entry, TrueTurn, TrueLink, Route, key_of, NodeWalk, last_or}
 use Rattle.walk.specs.steps.Net as net-walks
 use Rattle.walk.specs.steps.Net.{Back, start, via, Entry as Reached, unreached, reached, Local, LocalLinks}
 use Rattle.walk.specs.steps.ViewNet.{net, key, figures, unless_none, backed, is_none, reading, back_number}

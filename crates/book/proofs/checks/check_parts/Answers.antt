@@ -1,5 +1,4 @@
 -- Each scan that is clean hands the answer to the next table; the first that is not gives its refusal.
-use borrow.Author.Rules.{rules}
 use mathlib.Core.Path.{◌∙◌}
 use Rattle.book.specs.Check.{tables_of}
 use Rattle.book.proofs.Answers.{bad_table, clean_table}

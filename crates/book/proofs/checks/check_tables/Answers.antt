@@ -1,5 +1,4 @@
 -- The four parts are those of the definition.
-use borrow.Author.Rules.{rules}
 use Rattle.book.proofs.checks.check_tables.Goals as goal
 
 pub returns : goal.returns

@@ -1,5 +1,4 @@
 -- Each case of the answer has its own line in the definition.
-use borrow.Author.Rules.{rules}
 use Rattle.book.proofs.checks.given_back.Goals as goal
 
 pub returns-in-Good : goal.returns-in-Good

@@ -1,5 +1,4 @@
 -- The code is the definition, at the numbers that were read.
-use borrow.Author.Rules.{rules}
 use borrow.Author.Tests.{ne_eqb}
 use Rattle.book.specs.Entries.{ascends}
 use Rattle.book.proofs.entries.join_ascends.Goals as goal

@@ -1,5 +1,4 @@
 -- The code is the definition, at the numbers that were read; where a number is out of its table the rest does not count.
-use borrow.Author.Rules.{rules}
 use borrow.Author.Tests.{le-ltb, lt-ltb}
 use Rattle.book.specs.Entries.{join_good}
 use Rattle.book.proofs.entries.join_good.Goals as goal

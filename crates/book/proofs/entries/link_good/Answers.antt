@@ -1,5 +1,4 @@
 -- The code is the definition, at the numbers that were read.
-use borrow.Author.Rules.{rules}
 use Rattle.book.specs.Entries.{link_good}
 use Rattle.book.proofs.entries.link_good.Goals as goal
 

@@ -1,7 +1,6 @@
 use Prim.Native.Nat.{◌-◌}
-use borrow.Author.Rules.{rules}
 use Rattle.book.specs.Entries.{join_good, field}
-use Rattle.book.proofs.Scans.{Passed, none_passed, one_more, clean, bad}
+use Rattle.book.proofs.Scans.{Passed}
 use Rattle.book.proofs.entries.scan_joins.Given as goal
 
 abbrev pub invariant-joins : goal.invariant-joins

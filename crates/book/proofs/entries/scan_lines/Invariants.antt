@@ -1,7 +1,6 @@
 use Prim.Native.Nat.{◌-◌}
-use borrow.Author.Rules.{rules}
 use Rattle.book.specs.Entries.{line_good}
-use Rattle.book.proofs.Scans.{Passed, none_passed, one_more, clean, bad}
+use Rattle.book.proofs.Scans.{Passed}
 use Rattle.book.proofs.entries.scan_lines.Given as goal
 
 abbrev pub invariant-lines : goal.invariant-lines

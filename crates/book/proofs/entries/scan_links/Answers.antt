@@ -1,8 +1,6 @@
 -- The entries passed were good.
-use Prim.Native.Nat.{◌-◌}
 use borrow.Author.Rules.{rules}
-use Rattle.book.specs.Entries.{link_good}
-use Rattle.book.proofs.Scans.{Passed, none_passed, one_more, clean, bad}
+use Rattle.book.proofs.Scans.{none_passed, one_more, clean, bad}
 use Rattle.book.proofs.entries.scan_links.Goals as goal
 
 pub links-init : goal.links-init

@@ -1,7 +1,6 @@
 use Prim.Native.Nat.{◌-◌}
-use borrow.Author.Rules.{rules}
 use Rattle.book.specs.Entries.{link_good}
-use Rattle.book.proofs.Scans.{Passed, none_passed, one_more, clean, bad}
+use Rattle.book.proofs.Scans.{Passed}
 use Rattle.book.proofs.entries.scan_links.Given as goal
 
 abbrev pub invariant-links : goal.invariant-links

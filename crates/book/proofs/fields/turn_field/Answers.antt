@@ -1,5 +1,4 @@
 -- The table is the part of a checked book.
-use borrow.Author.Rules.{rules}
 use Rattle.book.proofs.Passes.{passes}
 use Rattle.book.proofs.fields.turn_field.Goals as goal
 

@@ -1,5 +1,4 @@
 -- The walk of a turn within its table lies within the book.
-use borrow.Author.Rules.{rules}
 use native.Mathlib.Omega.{arith}
 use Rattle.book.proofs.Passes.{passes}
 use Rattle.book.proofs.fields.write_walk.Goals as goal

@@ -1,5 +1,4 @@
 -- Each count is the number at its offset.
-use borrow.Author.Rules.{rules}
 use Rattle.book.specs.Header.{counts_of}
 use Rattle.book.proofs.header.counts_of.Goals as goal
 

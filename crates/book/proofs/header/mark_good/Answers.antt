@@ -1,5 +1,4 @@
 -- The code is the definition.
-use borrow.Author.Rules.{rules}
 use mathlib.Core.Path.{refl}
 use Rattle.book.specs.Header.{mark_good}
 use Rattle.book.proofs.header.mark_good.Goals as goal

@@ -1,5 +1,4 @@
 -- The code is the definition, at the number that was read.
-use borrow.Author.Rules.{rules}
 use Rattle.book.specs.Header.{version_good}
 use Rattle.book.proofs.header.version_good.Goals as goal
 

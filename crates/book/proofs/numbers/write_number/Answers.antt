@@ -1,5 +1,4 @@
 -- The code is the definition.
-use borrow.Author.Rules.{rules}
 use mathlib.Core.Path.{refl}
 use Rattle.book.specs.Number.{with_number}
 use Rattle.book.proofs.numbers.write_number.Goals as goal

@@ -1,7 +1,6 @@
 -- The two ends close in on the first entry of the run.
-use Prim.Native.Nat.{◌-◌}
 use borrow.Author.Rules.{rules}
-use Rattle.book.proofs.Halving.{Halved, whole, upper, lower, met}
+use Rattle.book.proofs.Halving.{whole, upper, lower, met}
 use Rattle.book.proofs.runs.run_from.Goals as goal
 
 pub halving-init : goal.halving-init

@@ -1,6 +1,5 @@
 use Prim.Native.Nat.{◌-◌}
-use borrow.Author.Rules.{rules}
-use Rattle.book.proofs.Halving.{Halved, whole, upper, lower, met}
+use Rattle.book.proofs.Halving.{Halved}
 use Rattle.book.proofs.runs.run_from.Given as goal
 
 abbrev pub invariant-halving : goal.invariant-halving

@@ -1,5 +1,4 @@
 -- Counts within their limits give a length far below the largest number.
-use borrow.Author.Rules.{rules}
 use native.Mathlib.Omega.{arith}
 use Rattle.book.proofs.Limits.{limits}
 use Rattle.book.proofs.tables.book_end.Goals as goal

@@ -1,5 +1,4 @@
 -- An entry of any size lies within its table.
-use borrow.Author.Rules.{rules}
 use native.Mathlib.Omega.{arith}
 use Rattle.book.proofs.Within.{entry_within}
 use Rattle.book.proofs.tables.entry_field.Goals as goal

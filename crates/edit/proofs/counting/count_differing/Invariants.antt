@@ -1,12 +1,9 @@
-use Prim.Native.Nat.{◌+◌, ◌-◌, ◌≤◌, ◌<◌}
+use Prim.Native.Nat.{◌-◌, ◌≤◌}
 use lib.ListN.{length}
-use mathlib.Core.Path.{◌≡◌, ap, ap₂, ◌∙◌}
-use native.Mathlib.Omega.{arith}
-use Rattle.walk.specs.Counting.{same_entry, one_unless, differing}
+use mathlib.Core.Path.{◌≡◌}
+use Rattle.walk.specs.Counting.{differing}
 use Rattle.walk.specs.Labels.{entry_at, three}
 use Rattle.edit.specs.steps.KeptLabels.{kept_at}
-use Rattle.edit.proofs.Counted.{at_most_one, none_counted, one_counted}
-use borrow.Author.Rules.{rules}
 use Rattle.edit.proofs.counting.count_differing.Given as goal
 
 abbrev pub invariant-entries : goal.invariant-entries

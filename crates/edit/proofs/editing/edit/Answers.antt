@@ -2,7 +2,6 @@
 use mathlib.Core.Path.{refl, sym, ◌∙◌}
 use Rattle.edit.specs.Edit.{refused}
 use Rattle.edit.proofs.Tested.{edit_tested}
-use borrow.Author.Rules.{rules}
 use Rattle.edit.proofs.editing.edit.Goals as goal
 
 pub edit_judged-requires : goal.edit_judged-requires

@@ -3,7 +3,6 @@ use mathlib.Core.Path.{refl}
 use Rattle.search.proofs.RouteLaws.{not_so, so}
 use Rattle.edit.specs.Edit.{untrue, done}
 use Rattle.edit.proofs.Tested.{edit_passed}
-use borrow.Author.Rules.{rules}
 use Rattle.edit.proofs.editing.edit_judged.Goals as goal
 
 pub labels_true-requires : goal.labels_true-requires

@@ -1,5 +1,4 @@
 -- The edit's own buffers, cut to the book's counts, keep the labels; what was lent keeps its length.
-use Prim.Native.Nat.{◌≤◌}
 use lib.ListN.{length}
 use lib.Seq.{length-take-le}
 use mathlib.Core.Path.{sym, ap, ◌∙◌}
@@ -7,44 +6,43 @@ use Rattle.book.proofs.GoodBook.{good_book}
 use Rattle.book.proofs.WalkWritten.{walk_written}
 use Rattle.edit.proofs.KeptSoFar.{cut_sized, front_room, front_whole}
 use Rattle.edit.proofs.NewLabels.{passed}
-use borrow.Author.Rules.{rules}
 use Rattle.edit.proofs.editing.edit_on.Goals as goal
 
 pub slice_bounds-turns_kept-end : goal.slice_bounds-turns_kept-end
-slice_bounds-turns_kept-end c = ((let fact : (c.args.counts.turns ≤ 4096) × (c.args.counts.links ≤ 2048) = let limited = (good_book _ _ (passed _ _ _ _ _ _ _ c.requires).checked).limited in (limited.turns, limited.links) in fact)).0
+slice_bounds-turns_kept-end c = (good_book _ _ (passed _ _ _ _ _ _ _ c.requires).checked).limited.turns
 
 pub slice_bounds-keep_table-end : goal.slice_bounds-keep_table-end
-slice_bounds-keep_table-end c = sym (length-take-le _ _ ((let fact : (c.args.counts.turns ≤ 4096) × (c.args.counts.links ≤ 2048) = let limited = (good_book _ _ (passed _ _ _ _ _ _ _ c.requires).checked).limited in (limited.turns, limited.links) in fact)).0)
+slice_bounds-keep_table-end c = sym (length-take-le _ _ (good_book _ _ (passed _ _ _ _ _ _ _ c.requires).checked).limited.turns)
 
 pub keep_table-requires : goal.keep_table-requires
-keep_table-requires c = cut_sized _ _ _ ((let fact : (c.args.counts.turns ≤ 4096) × (c.args.counts.links ≤ 2048) = let limited = (good_book _ _ (passed _ _ _ _ _ _ _ c.requires).checked).limited in (limited.turns, limited.links) in fact)).0 (passed _ _ _ _ _ _ _ c.requires).turns_sized
+keep_table-requires c = cut_sized _ _ _ (good_book _ _ (passed _ _ _ _ _ _ _ c.requires).checked).limited.turns (passed _ _ _ _ _ _ _ c.requires).turns_sized
 
 pub slice_bounds-links_kept-end : goal.slice_bounds-links_kept-end
-slice_bounds-links_kept-end c = ((let fact : (c.args.counts.turns ≤ 4096) × (c.args.counts.links ≤ 2048) = let limited = (good_book _ _ (passed _ _ _ _ _ _ _ c.requires).checked).limited in (limited.turns, limited.links) in fact)).1
+slice_bounds-links_kept-end c = (good_book _ _ (passed _ _ _ _ _ _ _ c.requires).checked).limited.links
 
 pub slice_bounds-keep_table-end-2 : goal.slice_bounds-keep_table-end-2
-slice_bounds-keep_table-end-2 c = sym (length-take-le _ _ ((let fact : (c.args.counts.turns ≤ 4096) × (c.args.counts.links ≤ 2048) = let limited = (good_book _ _ (passed _ _ _ _ _ _ _ c.requires).checked).limited in (limited.turns, limited.links) in fact)).1)
+slice_bounds-keep_table-end-2 c = sym (length-take-le _ _ (good_book _ _ (passed _ _ _ _ _ _ _ c.requires).checked).limited.links)
 
 pub keep_table-requires-2 : goal.keep_table-requires-2
-keep_table-requires-2 c = cut_sized _ _ _ ((let fact : (c.args.counts.turns ≤ 4096) × (c.args.counts.links ≤ 2048) = let limited = (good_book _ _ (passed _ _ _ _ _ _ _ c.requires).checked).limited in (limited.turns, limited.links) in fact)).1 (passed _ _ _ _ _ _ _ c.requires).links_sized
+keep_table-requires-2 c = cut_sized _ _ _ (good_book _ _ (passed _ _ _ _ _ _ _ c.requires).checked).limited.links (passed _ _ _ _ _ _ _ c.requires).links_sized
 
 pub slice_bounds-turns_kept-end-2 : goal.slice_bounds-turns_kept-end-2
-slice_bounds-turns_kept-end-2 c = front_room _ _ _ ((let fact : (c.args.counts.turns ≤ 4096) × (c.args.counts.links ≤ 2048) = let limited = (good_book _ _ (passed _ _ _ _ _ _ _ c.requires).checked).limited in (limited.turns, limited.links) in fact)).0 _ c.keep_table.ensures
+slice_bounds-turns_kept-end-2 c = front_room _ _ _ (good_book _ _ (passed _ _ _ _ _ _ _ c.requires).checked).limited.turns _ c.keep_table.ensures
 
 pub slice_bounds-relabel-end : goal.slice_bounds-relabel-end
-slice_bounds-relabel-end c = sym (length-take-le _ _ (front_room _ _ _ ((let fact : (c.args.counts.turns ≤ 4096) × (c.args.counts.links ≤ 2048) = let limited = (good_book _ _ (passed _ _ _ _ _ _ _ c.requires).checked).limited in (limited.turns, limited.links) in fact)).0 _ c.keep_table.ensures))
+slice_bounds-relabel-end c = sym (length-take-le _ _ (front_room _ _ _ (good_book _ _ (passed _ _ _ _ _ _ _ c.requires).checked).limited.turns _ c.keep_table.ensures))
 
 pub slice_bounds-links_kept-end-2 : goal.slice_bounds-links_kept-end-2
-slice_bounds-links_kept-end-2 c = front_room _ _ _ ((let fact : (c.args.counts.turns ≤ 4096) × (c.args.counts.links ≤ 2048) = let limited = (good_book _ _ (passed _ _ _ _ _ _ _ c.requires).checked).limited in (limited.turns, limited.links) in fact)).1 _ c.keep_table-2.ensures
+slice_bounds-links_kept-end-2 c = front_room _ _ _ (good_book _ _ (passed _ _ _ _ _ _ _ c.requires).checked).limited.links _ c.keep_table-2.ensures
 
 pub slice_bounds-relabel-end-2 : goal.slice_bounds-relabel-end-2
-slice_bounds-relabel-end-2 c = sym (length-take-le _ _ (front_room _ _ _ ((let fact : (c.args.counts.turns ≤ 4096) × (c.args.counts.links ≤ 2048) = let limited = (good_book _ _ (passed _ _ _ _ _ _ _ c.requires).checked).limited in (limited.turns, limited.links) in fact)).1 _ c.keep_table-2.ensures))
+slice_bounds-relabel-end-2 c = sym (length-take-le _ _ (front_room _ _ _ (good_book _ _ (passed _ _ _ _ _ _ _ c.requires).checked).limited.links _ c.keep_table-2.ensures))
 
 pub relabel-requires : goal.relabel-requires
 relabel-requires c = record {
   asked = c.requires;
-  kept_whole = front_whole _ _ _ ((let fact : (c.args.counts.turns ≤ 4096) × (c.args.counts.links ≤ 2048) = let limited = (good_book _ _ (passed _ _ _ _ _ _ _ c.requires).checked).limited in (limited.turns, limited.links) in fact)).0 _ c.keep_table.ensures;
-  kept_whole_2 = front_whole _ _ _ ((let fact : (c.args.counts.turns ≤ 4096) × (c.args.counts.links ≤ 2048) = let limited = (good_book _ _ (passed _ _ _ _ _ _ _ c.requires).checked).limited in (limited.turns, limited.links) in fact)).1 _ c.keep_table-2.ensures;
+  kept_whole = front_whole _ _ _ (good_book _ _ (passed _ _ _ _ _ _ _ c.requires).checked).limited.turns _ c.keep_table.ensures;
+  kept_whole_2 = front_whole _ _ _ (good_book _ _ (passed _ _ _ _ _ _ _ c.requires).checked).limited.links _ c.keep_table-2.ensures;
 }
 
 pub shape_of-book : goal.shape_of-book

@@ -1,6 +1,5 @@
 -- The search of the edited book leaves its true labels, and what differs from those kept is counted.
 use Rattle.edit.proofs.NewLabels.{passed, turns_beside, links_beside, relabelled}
-use borrow.Author.Rules.{rules}
 use Rattle.edit.proofs.editing.relabel.Goals as goal
 
 pub write_walk-requires : goal.write_walk-requires

@@ -4,7 +4,6 @@ use mathlib.Core.Bool.{Bool, ◌&&◌}
 use lib.Dec.{ltb}
 use Rattle.book.proofs.Answers.{held, failed}
 use Rattle.edit.specs.Edit.{turn_test}
-use borrow.Author.Rules.{rules}
 use Rattle.edit.proofs.editing.turn_test.Goals as goal
 
 pub returns-then-not-turn-counts : goal.returns-then-not-turn-counts

@@ -1,9 +1,6 @@
 -- The entries passed are kept.
-use Prim.Native.Nat.{◌-◌}
-use lib.ListN.{length}
 use mathlib.Core.Path.{refl, ◌∙◌}
-use Rattle.walk.specs.Labels.{three}
-use Rattle.edit.proofs.KeptSoFar.{Kept, none_kept, one_kept, all_kept}
+use Rattle.edit.proofs.KeptSoFar.{none_kept, one_kept, all_kept}
 use borrow.Author.Rules.{rules}
 use Rattle.edit.proofs.keeping.keep_table.Goals as goal
 

@@ -1,9 +1,7 @@
 use Prim.Native.Nat.{◌-◌}
 use lib.ListN.{length}
-use mathlib.Core.Path.{refl, ◌∙◌}
 use Rattle.walk.specs.Labels.{three}
-use Rattle.edit.proofs.KeptSoFar.{Kept, none_kept, one_kept, all_kept}
-use borrow.Author.Rules.{rules}
+use Rattle.edit.proofs.KeptSoFar.{Kept}
 use Rattle.edit.proofs.keeping.keep_table.Given as goal
 
 abbrev pub invariant-entries : goal.invariant-entries

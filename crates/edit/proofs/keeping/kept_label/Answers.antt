@@ -1,5 +1,4 @@
 -- The code is the definition.
-use borrow.Author.Rules.{rules}
 use mathlib.Core.Path.{refl}
 use Rattle.edit.specs.steps.KeptLabels.{kept_entry}
 use Rattle.edit.proofs.keeping.kept_label.Goals as goal

@@ -1,7 +1,6 @@
 -- Up to the basic distance a difference of numbers is none.
 use mathlib.Core.Path.{ap}
 use native.Mathlib.Omega.{arith}
-use borrow.Author.Rules.{rules}
 use Rattle.fare.specs.Amounts.{in_metres}
 use Rattle.fare.proofs.amounts.beyond.Goals as goal
 

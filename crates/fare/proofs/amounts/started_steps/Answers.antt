@@ -1,5 +1,4 @@
 -- The quotient rounded up is the number of started steps.
-use borrow.Author.Rules.{rules}
 use Rattle.fare.proofs.Steps.{divided}
 use Rattle.fare.proofs.amounts.started_steps.Goals as goal
 

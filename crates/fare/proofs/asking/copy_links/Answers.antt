@@ -1,10 +1,8 @@
 -- The links passed stand at the front of the buffer, and the rest of it is as it was.
-use Prim.Native.Nat.{◌-◌, ◌≤◌}
-use mathlib.Core.Path.{◌≡◌, ◌∙◌}
+use mathlib.Core.Path.{◌∙◌}
 use native.Mathlib.Omega.{arith}
-use borrow.Author.Rules.{rules}
-use lib.ListN.{length, length-set}
-use lib.Seq.{paste, paste-zero}
+use lib.ListN.{length-set}
+use lib.Seq.{paste-zero}
 use Rattle.fare.proofs.Copied.{one_copied, all_copied}
 use Rattle.fare.proofs.asking.copy_links.Goals as goal
 

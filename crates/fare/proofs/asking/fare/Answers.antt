@@ -2,7 +2,6 @@
 use mathlib.Core.Path.{sym, ◌∙◌}
 use Rattle.search.proofs.RouteRoom.{check_refuses}
 use Rattle.fare.proofs.FoundLaws.{refused_faring}
-use borrow.Author.Rules.{rules}
 use Rattle.fare.proofs.asking.fare.Goals as goal
 
 pub fare_checked-requires : goal.fare_checked-requires

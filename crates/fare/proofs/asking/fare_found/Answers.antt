@@ -5,7 +5,6 @@ use lib.ListN.{length}
 use borrow.Author.Tests.{not-true, not-false}
 use Rattle.fare.specs.declared.Fared.TheVariants.{Done}
 use Rattle.fare.specs.steps.Reckoning.{no_room, bad_fares, done}
-use borrow.Author.Rules.{rules}
 use Rattle.fare.proofs.asking.fare_found.Goals as goal
 
 pub returns-then-buffer-count : goal.returns-then-buffer-count

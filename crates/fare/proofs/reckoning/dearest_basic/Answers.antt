@@ -1,16 +1,10 @@
 -- The dearest of all is the dearer of what the links passed gave and of what is left.
-use Prim.Native.Nat.{◌-◌, ◌≤◌, ◌<◌}
-use mathlib.Core.Path.{◌≡◌, refl, sym, ◌∙◌}
+use Prim.Native.Nat.{◌<◌}
+use mathlib.Core.Path.{refl, sym, ◌∙◌}
 use native.Mathlib.Omega.{arith}
-use borrow.Author.Rules.{rules}
 use borrow.Author.Tests.{ltb-true}
-use lib.ListN.{length, drop}
+use lib.ListN.{length}
 use lib.Dec.{ltb}
-use Rattle.book.specs.Tables.{link_table}
-use Rattle.book.specs.Entries.{link_line}
-use Rattle.fare.specs.Amounts.{dearer}
-use Rattle.fare.specs.Fares.{basic_in}
-use Rattle.fare.specs.Fare.{dearest}
 use Rattle.fare.proofs.Dearer.{none_dearer}
 use Rattle.fare.proofs.GoodFares.{each}
 use Rattle.fare.proofs.FareLaws.{dearest_on, dearest_end}

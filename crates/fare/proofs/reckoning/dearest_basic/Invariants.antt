@@ -1,18 +1,11 @@
-use Prim.Native.Nat.{◌-◌, ◌≤◌, ◌<◌}
-use mathlib.Core.Path.{◌≡◌, refl, sym, ◌∙◌}
-use native.Mathlib.Omega.{arith}
-use borrow.Author.Rules.{rules}
-use borrow.Author.Tests.{ltb-true}
+use Prim.Native.Nat.{◌-◌, ◌≤◌}
+use mathlib.Core.Path.{◌≡◌}
 use lib.ListN.{length, drop}
-use lib.Dec.{ltb}
 use Rattle.book.specs.Tables.{link_table}
 use Rattle.book.specs.Entries.{link_line}
 use Rattle.fare.specs.Amounts.{dearer}
 use Rattle.fare.specs.Fares.{basic_in}
 use Rattle.fare.specs.Fare.{dearest}
-use Rattle.fare.proofs.Dearer.{none_dearer}
-use Rattle.fare.proofs.GoodFares.{each}
-use Rattle.fare.proofs.FareLaws.{dearest_on, dearest_end}
 use Rattle.fare.proofs.reckoning.dearest_basic.Given as goal
 
 abbrev pub invariant-loop-passed : goal.invariant-loop-passed

@@ -1,13 +1,12 @@
 -- A link of the book has its number in a good table.
 use mathlib.Core.Path.{ap}
 use native.Mathlib.Omega.{arith}
-use borrow.Author.Rules.{rules}
 use Rattle.fare.specs.Amounts.{in_metres}
-use Rattle.fare.proofs.GoodFares.{GoodTable, good_table}
+use Rattle.fare.proofs.GoodFares.{good_table}
 use Rattle.fare.proofs.reckoning.link_metres.Goals as goal
 
 pub bounds-table-at : goal.bounds-table-at
-bounds-table-at c = omega (arith, ((let fact : GoodTable c.args.counts c.args.table.now = good_table _ _ c.requires.0 in fact)).size)
+bounds-table-at c = omega (arith, (good_table _ _ c.requires.0).size)
 
 pub returns : goal.returns
-returns c = (ap in_metres c.widened.ensures, omega (arith, c.widened.ensures, ((let fact : GoodTable c.args.counts c.args.table.now = good_table _ _ c.requires.0 in fact)).metres c.args.link.0 c.requires.1))
+returns c = (ap in_metres c.widened.ensures, omega (arith, c.widened.ensures, (good_table _ _ c.requires.0).metres c.args.link.0 c.requires.1))

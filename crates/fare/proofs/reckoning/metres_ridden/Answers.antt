@@ -1,15 +1,11 @@
 -- The metres of the links passed and of those left are all metres.
-use Prim.Native.Nat.{◌+◌, ◌-◌, ◌*◌, ◌≤◌}
-use mathlib.Core.Path.{◌≡◌, ap}
+use mathlib.Core.Path.{ap}
 use native.Mathlib.Omega.{arith}
-use borrow.Author.Rules.{rules}
 use borrow.Author.Tests.{ltb-true}
-use lib.ListN.{length, drop}
 use lib.Dec.{ltb}
 use Rattle.fare.specs.declared.Metres.{Metres}
 use Rattle.fare.specs.Amounts.{in_metres}
-use Rattle.fare.specs.Fares.{metres_in, most_metres}
-use Rattle.fare.specs.Fare.{ridden}
+use Rattle.fare.specs.Fares.{metres_in}
 use Rattle.fare.proofs.GoodFares.{each}
 use Rattle.fare.proofs.FareLaws.{ridden_on, ridden_end}
 use Rattle.fare.proofs.reckoning.metres_ridden.Goals as goal

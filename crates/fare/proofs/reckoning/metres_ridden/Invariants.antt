@@ -1,16 +1,8 @@
 use Prim.Native.Nat.{◌+◌, ◌-◌, ◌*◌, ◌≤◌}
-use mathlib.Core.Path.{◌≡◌, ap}
-use native.Mathlib.Omega.{arith}
-use borrow.Author.Rules.{rules}
-use borrow.Author.Tests.{ltb-true}
+use mathlib.Core.Path.{◌≡◌}
 use lib.ListN.{length, drop}
-use lib.Dec.{ltb}
-use Rattle.fare.specs.declared.Metres.{Metres}
-use Rattle.fare.specs.Amounts.{in_metres}
 use Rattle.fare.specs.Fares.{metres_in, most_metres}
 use Rattle.fare.specs.Fare.{ridden}
-use Rattle.fare.proofs.GoodFares.{each}
-use Rattle.fare.proofs.FareLaws.{ridden_on, ridden_end}
 use Rattle.fare.proofs.reckoning.metres_ridden.Given as goal
 
 abbrev pub invariant-loop-passed : goal.invariant-loop-passed

@@ -1,10 +1,6 @@
 -- Where the numbers passed are within their limit, all are exactly when those left are.
-use Prim.Native.Nat.{◌≤◌, ◌-◌}
-use mathlib.Core.Path.{◌≡◌, refl, sym, ◌∙◌}
+use mathlib.Core.Path.{refl, sym, ◌∙◌}
 use native.Mathlib.Omega.{arith}
-use borrow.Author.Rules.{rules}
-use lib.ListN.{length, drop}
-use Rattle.fare.specs.Fares.{all_within}
 use Rattle.fare.proofs.GoodFares.{within_on, within_broken, within_end}
 use Rattle.fare.proofs.tables.all_within.Goals as goal
 

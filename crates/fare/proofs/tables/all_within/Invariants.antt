@@ -1,10 +1,7 @@
 use Prim.Native.Nat.{◌≤◌, ◌-◌}
-use mathlib.Core.Path.{◌≡◌, refl, sym, ◌∙◌}
-use native.Mathlib.Omega.{arith}
-use borrow.Author.Rules.{rules}
+use mathlib.Core.Path.{◌≡◌}
 use lib.ListN.{length, drop}
 use Rattle.fare.specs.Fares.{all_within}
-use Rattle.fare.proofs.GoodFares.{within_on, within_broken, within_end}
 use Rattle.fare.proofs.tables.all_within.Given as goal
 
 abbrev pub invariant-loop-passed : goal.invariant-loop-passed

@@ -1,6 +1,5 @@
 -- The two tests are the definition's.
 use Rattle.fare.specs.Fares.{fares_good}
-use borrow.Author.Rules.{rules}
 use Rattle.fare.proofs.tables.fares_good.Goals as goal
 
 pub returns : goal.returns

@@ -5,7 +5,6 @@ use native.Mathlib.Omega.{arith}
 use lib.ListN.{length}
 use lib.Seq.{length-take-le}
 use Rattle.fare.proofs.GoodFares.{rest_whole, other_length, right_length}
-use borrow.Author.Rules.{rules}
 use Rattle.fare.proofs.tables.table_good.Goals as goal
 
 pub returns-then-end-links : goal.returns-then-end-links

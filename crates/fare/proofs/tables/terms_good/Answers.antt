@@ -1,6 +1,5 @@
 -- The tests are the definition's.
 use mathlib.Core.Path.{refl}
-use borrow.Author.Rules.{rules}
 use Rattle.fare.specs.Fares.{terms_good}
 use Rattle.fare.proofs.tables.terms_good.Goals as goal
 

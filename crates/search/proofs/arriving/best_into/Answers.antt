@@ -1,5 +1,4 @@
 -- The answer is the best label's, by the same test.
-use borrow.Author.Rules.{rules}
 use borrow.Author.Tests.{eq-eqb, ne_eqb}
 use Rattle.search.specs.steps.Arriving.{arrival_of}
 use Rattle.search.proofs.arriving.best_into.Goals as goal

@@ -1,14 +1,10 @@
 -- The label held is the best of the links passed.
-use Prim.Native.Nat.{◌-◌, ◌≤◌}
 use mathlib.Core.Path.{◌≡◌, refl}
 use native.Mathlib.Numerals.{add-one}
 use native.Mathlib.Omega.{arith}
 use borrow.Author.Rules.{rules}
 use Rattle.book.proofs.GoodBook.{good_book}
-use Rattle.book.specs.Entries.{link_to}
-use Rattle.book.specs.Tables.{link_table}
 use Rattle.search.specs.steps.Arriving.{best_into}
-use Rattle.search.specs.steps.Tables.{as_entry}
 use Rattle.search.proofs.arriving.best_label.Goals as goal
 
 pub links-init : goal.links-init

@@ -1,9 +1,5 @@
 use Prim.Native.Nat.{◌-◌, ◌≤◌}
-use mathlib.Core.Path.{◌≡◌, refl}
-use native.Mathlib.Numerals.{add-one}
-use native.Mathlib.Omega.{arith}
-use borrow.Author.Rules.{rules}
-use Rattle.book.proofs.GoodBook.{good_book}
+use mathlib.Core.Path.{◌≡◌}
 use Rattle.book.specs.Entries.{link_to}
 use Rattle.book.specs.Tables.{link_table}
 use Rattle.search.specs.steps.Arriving.{best_into}

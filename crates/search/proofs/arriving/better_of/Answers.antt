@@ -1,7 +1,6 @@
 -- A link that is reached and enters offers its label, which is taken where it goes ahead; any other changes nothing.
 use mathlib.Core.Path.{sym, ◌∙◌}
 use borrow.Author.Tests.{eq-eqb, ne_eqb}
-use borrow.Author.Rules.{rules}
 use Rattle.search.proofs.arriving.better_of.Goals as goal
 
 pub returns-then-cost-link : goal.returns-then-cost-link

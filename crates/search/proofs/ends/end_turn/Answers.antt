@@ -1,5 +1,4 @@
 -- Case by case of whether the turn is reached; its second link is one of the book.
-use borrow.Author.Rules.{rules}
 use borrow.Author.Tests.{eq-eqb, ne_eqb}
 use native.Mathlib.Omega.{arith}
 use Rattle.book.proofs.GoodBook.{good_book}

@@ -1,12 +1,8 @@
 -- The turns passed have offered their figures.
-use Prim.Native.Nat.{◌-◌}
 use borrow.Author.Rules.{rules}
 use native.Mathlib.Omega.{arith}
-use Rattle.book.specs.Entries.{turn_second}
-use Rattle.book.specs.Tables.{turn_table}
-use Rattle.walk.specs.Labels.{three}
 use Rattle.book.proofs.GoodBook.{good_book}
-use Rattle.search.proofs.EndedTurns.{Ending, none_ended, one_ended, all_ended}
+use Rattle.search.proofs.EndedTurns.{none_ended, one_ended, all_ended}
 use Rattle.search.proofs.ends.end_turns.Goals as goal
 
 pub turns-init : goal.turns-init

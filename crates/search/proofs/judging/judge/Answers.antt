@@ -3,7 +3,6 @@ use mathlib.Core.Path.{ap, ◌∙◌}
 use lib.ListN.{length}
 use Rattle.walk.proofs.Filling.{up_to_length}
 use Rattle.search.proofs.RouteLaws.{book_judged}
-use borrow.Author.Rules.{rules}
 use Rattle.search.proofs.judging.judge.Goals as goal
 
 pub turns_stand-requires : goal.turns_stand-requires

@@ -1,7 +1,6 @@
 -- Where the back is a turn, the tests stand in the definition's order.
 use borrow.Author.Tests.{lt-ltb, le-ltb}
 use Rattle.search.specs.steps.Judging.{end_leads}
-use borrow.Author.Rules.{rules}
 use Rattle.search.proofs.judging_links.end_leads.Goals as goal
 
 pub returns-then-counts-label : goal.returns-then-counts-label

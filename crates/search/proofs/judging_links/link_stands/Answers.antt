@@ -1,7 +1,6 @@
 -- Each test that decides ends the definition's line of tests.
 use mathlib.Core.Path.{sym, ◌∙◌}
 use Rattle.search.specs.steps.Judging.{link_stands}
-use borrow.Author.Rules.{rules}
 use Rattle.search.proofs.judging_links.link_stands.Goals as goal
 
 pub returns-then-goes_ahead : goal.returns-then-goes_ahead

@@ -1,11 +1,8 @@
 use Prim.Native.Nat.{◌-◌}
-use native.Mathlib.Omega.{arith}
-use Rattle.book.proofs.GoodBook.{good_book}
 use Rattle.walk.specs.View.{view_of}
 use Rattle.walk.specs.Labels.{three}
 use Rattle.search.specs.steps.Judging.{link_stands}
-use Rattle.search.proofs.EveryBelow.{Passed, none_passed, one_more_passed, all_passed, one_failed}
-use borrow.Author.Rules.{rules}
+use Rattle.search.proofs.EveryBelow.{Passed}
 use Rattle.search.proofs.judging_links.links_stand.Given as goal
 
 abbrev pub invariant-links : goal.invariant-links

@@ -7,7 +7,6 @@ use Rattle.search.specs.steps.Tables.{as_entry}
 use Rattle.search.specs.steps.Judging.{back_leads}
 use Rattle.search.proofs.Offers.{looked_up_limit}
 use Rattle.search.proofs.Overtaking.{limits, leads_barred, leads_stepped}
-use borrow.Author.Rules.{rules}
 use Rattle.search.proofs.judging_turns.back_leads.Goals as goal
 
 pub returns-then-counts-label : goal.returns-then-counts-label

@@ -2,7 +2,6 @@
 use Prim.Native.Nat.{◌<◌}
 use native.Mathlib.Omega.{arith}
 use Rattle.book.proofs.GoodBook.{good_book}
-use borrow.Author.Rules.{rules}
 use Rattle.search.proofs.judging_turns.end_stands.Goals as goal
 
 pub label_at-requires : goal.label_at-requires

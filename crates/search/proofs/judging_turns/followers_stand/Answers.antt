@@ -1,11 +1,8 @@
 -- The followers passed are not overtaken, and the pairs passed are theirs.
-use Prim.Native.Nat.{◌-◌}
 use native.Mathlib.Omega.{arith}
 use Rattle.book.proofs.GoodBook.{good_book}
-use Rattle.walk.specs.Labels.{three}
 use Rattle.search.proofs.BothRuns.{followers_listed, pairs_listed}
-use Rattle.search.proofs.NoneOvertaken.{NoneOvertaken, none_yet, none_next, none_at_all, one_overtaken}
-use borrow.Author.Rules.{rules}
+use Rattle.search.proofs.NoneOvertaken.{none_yet, none_next, none_at_all, one_overtaken}
 use Rattle.search.proofs.judging_turns.followers_stand.Goals as goal
 
 pub turns-init : goal.turns-init

@@ -1,10 +1,6 @@
 use Prim.Native.Nat.{◌-◌}
-use native.Mathlib.Omega.{arith}
-use Rattle.book.proofs.GoodBook.{good_book}
 use Rattle.walk.specs.Labels.{three}
-use Rattle.search.proofs.BothRuns.{followers_listed, pairs_listed}
-use Rattle.search.proofs.NoneOvertaken.{NoneOvertaken, none_yet, none_next, none_at_all, one_overtaken}
-use borrow.Author.Rules.{rules}
+use Rattle.search.proofs.NoneOvertaken.{NoneOvertaken}
 use Rattle.search.proofs.judging_turns.followers_stand.Given as goal
 
 abbrev pub invariant-turns : goal.invariant-turns

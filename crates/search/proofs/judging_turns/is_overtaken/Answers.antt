@@ -3,7 +3,6 @@ use native.Mathlib.Omega.{arith}
 use Rattle.search.specs.steps.Tables.{as_entry}
 use Rattle.search.proofs.Offers.{step_limit}
 use Rattle.search.proofs.Overtaking.{limits}
-use borrow.Author.Rules.{rules}
 use Rattle.search.proofs.judging_turns.is_overtaken.Goals as goal
 
 pub one_turn_on-offered-requires : goal.one_turn_on-offered-requires

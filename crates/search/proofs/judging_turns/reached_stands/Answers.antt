@@ -1,6 +1,5 @@
 -- The four tests are those of the definition.
 use Rattle.search.proofs.Overtaking.{reached_by}
-use borrow.Author.Rules.{rules}
 use Rattle.search.proofs.judging_turns.reached_stands.Goals as goal
 
 pub returns : goal.returns

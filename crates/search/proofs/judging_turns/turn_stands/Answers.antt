@@ -2,7 +2,6 @@
 use mathlib.Core.Path.{sym, ◌∙◌}
 use Rattle.book.proofs.Answers.{held, failed}
 use Rattle.search.specs.steps.Judging.{turn_stands}
-use borrow.Author.Rules.{rules}
 use Rattle.search.proofs.judging_turns.turn_stands.Goals as goal
 
 pub returns-then-goes_ahead : goal.returns-then-goes_ahead

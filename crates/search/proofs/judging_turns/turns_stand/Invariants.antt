@@ -1,11 +1,8 @@
-use borrow.Author.Rules.{rules}
 use Prim.Native.Nat.{◌-◌}
-use native.Mathlib.Omega.{arith}
-use Rattle.book.proofs.GoodBook.{good_book}
 use Rattle.walk.specs.View.{view_with}
 use Rattle.walk.specs.Labels.{three}
 use Rattle.search.specs.steps.Judging.{turn_stands}
-use Rattle.search.proofs.EveryBelow.{Passed, none_passed, one_more_passed, all_passed, one_failed}
+use Rattle.search.proofs.EveryBelow.{Passed}
 use Rattle.search.proofs.judging_turns.turns_stand.Given as goal
 
 abbrev pub invariant-turns : goal.invariant-turns

@@ -1,7 +1,6 @@
 -- No walk is one label.
 use Rattle.walk.specs.steps.ViewNet.{is_none}
 use Rattle.walk.specs.Counting.{same_entry}
-use borrow.Author.Rules.{rules}
 use Rattle.search.proofs.labels.is_none.Goals as goal
 
 pub returns : goal.returns

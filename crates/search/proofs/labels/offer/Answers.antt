@@ -1,5 +1,4 @@
 -- The label is placed exactly where the test of the held one says so.
-use borrow.Author.Rules.{rules}
 use mathlib.Core.Path.{sym, ap, ◌∙◌}
 use Rattle.search.specs.steps.Tables.{goes_ahead, offered}
 use Rattle.search.proofs.labels.offer.Goals as goal

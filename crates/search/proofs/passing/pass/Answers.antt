@@ -1,5 +1,4 @@
 -- Case by case of the step, whose seconds are few enough that the sum fits.
-use borrow.Author.Rules.{rules}
 use native.Mathlib.Omega.{arith}
 use Rattle.search.proofs.Offers.{step_limit}
 use Rattle.search.proofs.passing.pass.Goals as goal

@@ -1,10 +1,8 @@
 -- The followers before the one in hand have been passed the label, and the pairs before the one in hand are theirs.
-use Prim.Native.Nat.{◌-◌}
 use borrow.Author.Rules.{rules}
 use native.Mathlib.Omega.{arith}
-use Rattle.walk.specs.Labels.{three}
 use Rattle.book.proofs.GoodBook.{good_book}
-use Rattle.search.proofs.Spreading.{Spreading, set_out, goes_on, arrived}
+use Rattle.search.proofs.Spreading.{set_out, goes_on, arrived}
 use Rattle.search.proofs.BothRuns.{followers_listed, pairs_listed}
 use Rattle.search.proofs.passing.spread.Goals as goal
 

@@ -1,10 +1,6 @@
 use Prim.Native.Nat.{◌-◌}
-use borrow.Author.Rules.{rules}
-use native.Mathlib.Omega.{arith}
 use Rattle.walk.specs.Labels.{three}
-use Rattle.book.proofs.GoodBook.{good_book}
-use Rattle.search.proofs.Spreading.{Spreading, set_out, goes_on, arrived}
-use Rattle.search.proofs.BothRuns.{followers_listed, pairs_listed}
+use Rattle.search.proofs.Spreading.{Spreading}
 use Rattle.search.proofs.passing.spread.Given as goal
 
 abbrev pub invariant-turns : goal.invariant-turns

@@ -1,5 +1,4 @@
 -- The test decides.
-use borrow.Author.Rules.{rules}
 use mathlib.Core.Path.{sym, ◌∙◌}
 use Rattle.search.proofs.picking.lesser_of.Goals as goal
 

@@ -1,10 +1,9 @@
 -- The turn held is the foremost candidate of the turns passed.
-use Prim.Native.Nat.{◌-◌, ◌≤◌}
 use borrow.Author.Rules.{rules}
 use lib.ListN.{length}
 use mathlib.Core.Path.{◌≡◌}
 use native.Mathlib.Omega.{arith}
-use Rattle.search.proofs.LeastCandidate.{Holding, held_below, with_turn_lem, all_passed}
+use Rattle.search.proofs.LeastCandidate.{held_below, with_turn_lem, all_passed}
 use Rattle.search.proofs.picking.pick.Goals as goal
 
 pub turns-init : goal.turns-init

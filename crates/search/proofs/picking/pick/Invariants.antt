@@ -1,9 +1,6 @@
 use Prim.Native.Nat.{◌-◌, ◌≤◌}
-use borrow.Author.Rules.{rules}
 use lib.ListN.{length}
-use mathlib.Core.Path.{◌≡◌}
-use native.Mathlib.Omega.{arith}
-use Rattle.search.proofs.LeastCandidate.{Holding, held_below, with_turn_lem, all_passed}
+use Rattle.search.proofs.LeastCandidate.{Holding}
 use Rattle.search.proofs.picking.pick.Given as goal
 
 abbrev pub invariant-turns : goal.invariant-turns

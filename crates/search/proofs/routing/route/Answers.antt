@@ -2,7 +2,6 @@
 use mathlib.Core.Path.{refl, sym, ◌∙◌}
 use Rattle.search.specs.Route.{refused}
 use Rattle.search.proofs.Tested.{route_tested}
-use borrow.Author.Rules.{rules}
 use Rattle.search.proofs.routing.route.Goals as goal
 
 pub route_checked-requires : goal.route_checked-requires

@@ -1,5 +1,4 @@
 -- Each case of the answer has its own line in the definition.
-use borrow.Author.Rules.{rules}
 use Rattle.search.proofs.routing.route_given_back.Goals as goal
 
 pub returns-in-Done : goal.returns-in-Done

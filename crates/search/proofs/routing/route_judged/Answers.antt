@@ -4,7 +4,6 @@ use Rattle.walk.specs.Labels.{three}
 use Rattle.search.specs.Route.{untrue, onward}
 use Rattle.search.proofs.Tested.{route_passed}
 use Rattle.search.proofs.RouteLaws.{not_so, so}
-use borrow.Author.Rules.{rules}
 use Rattle.search.proofs.routing.route_judged.Goals as goal
 
 pub labels_true-requires : goal.labels_true-requires

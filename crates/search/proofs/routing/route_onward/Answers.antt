@@ -2,7 +2,6 @@
 use lib.ListN.{length}
 use mathlib.Core.Path.{sym, ap, ◌∙◌}
 use Rattle.search.proofs.RouteLaws.{stays_here, none_leads, too_long, trace_asked, traced_route}
-use borrow.Author.Rules.{rules}
 use Rattle.search.proofs.routing.route_onward.Goals as goal
 
 pub returns-then-origin-destination : goal.returns-then-origin-destination

@@ -1,5 +1,4 @@
 -- Each answer of the tests is one case of the contract.
-use borrow.Author.Rules.{rules}
 use mathlib.Core.Path.{refl, sym, ◌∙◌}
 use Rattle.search.specs.Search.{refused, done}
 use Rattle.search.proofs.Tested.{search_tested, search_passed}

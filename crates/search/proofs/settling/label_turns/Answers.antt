@@ -1,5 +1,4 @@
 -- The starts are those of this origin, so the end is true of it.
-use borrow.Author.Rules.{rules}
 use lib.ListN.{length}
 use mathlib.Core.Path.{ap, ◌∙◌}
 use Rattle.walk.proofs.Filling.{up_to_length}

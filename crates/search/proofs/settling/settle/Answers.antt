@@ -1,5 +1,4 @@
 -- The mark is set, and the label that stands in the table is passed on.
-use borrow.Author.Rules.{rules}
 use Rattle.search.proofs.settling.settle.Goals as goal
 
 pub spread-requires : goal.spread-requires

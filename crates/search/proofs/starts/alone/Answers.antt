@@ -1,5 +1,4 @@
 -- The entry follows the one test.
-use borrow.Author.Rules.{rules}
 use borrow.Author.Tests.{eq-eqb, ne_eqb}
 use Rattle.search.specs.steps.Starts.{alone_entry}
 use Rattle.search.proofs.starts.alone.Goals as goal

@@ -1,12 +1,8 @@
 -- The entries passed are filled.
-use Prim.Native.Nat.{◌-◌}
 use borrow.Author.Rules.{rules}
 use native.Mathlib.Omega.{arith}
-use Rattle.search.specs.steps.Starts.{alone_entry}
-use Rattle.walk.specs.Labels.{three}
-use Rattle.walk.specs.View.{view_of}
 use Rattle.book.proofs.GoodBook.{good_book}
-use Rattle.search.proofs.FilledTables.{TableFilled, none_placed, one_placed, all_placed}
+use Rattle.search.proofs.FilledTables.{none_placed, one_placed, all_placed}
 use Rattle.search.proofs.starts.start_links.Goals as goal
 
 pub links-init : goal.links-init

@@ -14,18 +14,19 @@ unfolding start_entry
 returns-then-walk c = rw (eq-eqb _ _ c.if-walk.true)
 
 pub link_from-from-requires : goal.link_from-from-requires
-link_from-from-requires c = (search rules, (let fact : c.turn_first-first.result.0 < c.args.counts.links = omega (arith, (good_book _ _ c.requires.book_value).turn _ c.requires.walks_len.1) in fact))
+link_from-from-requires c = (search rules, omega (arith, (good_book _ _ c.requires.book_value).turn _ c.requires.walks_len.1))
 
 pub returns-then-from-origin : goal.returns-then-from-origin
 unfolding start_entry
 returns-then-from-origin c = rw (← c.turn_first-first.ensures, ← c.link_from-from.ensures, ne_eqb _ _ c.if-walk.false, ne_eqb _ _ c.if-from-origin.true)
 
 pub link_cost-requires : goal.link_cost-requires
-link_cost-requires c = (search rules, (let fact : c.turn_first-first.result.0 < c.args.counts.links = omega (arith, (good_book _ _ c.requires.book_value).turn _ c.requires.walks_len.1) in fact))
+link_cost-requires c = (search rules, omega (arith, (good_book _ _ c.requires.book_value).turn _ c.requires.walks_len.1))
 
 pub overflow_add-result : goal.overflow_add-result
-overflow_add-result c = let known = c.shared_slice_known-2-1.given c.args.turn.0 in
-    omega (arith, c.link_cost.ensures, link_limit c.args.book.now c.args.counts [] c.requires.book_value _ ((let fact : c.turn_first-first.result.0 < c.args.counts.links = omega (arith, (good_book _ _ c.requires.book_value).turn _ c.requires.walks_len.1) in fact)), c.turn_cost.ensures, turn_limit c.args.book.now c.args.counts c.args.walks.now c.requires.book_value c.args.turn.0 c.requires.walks_len.1, known)
+overflow_add-result c =
+    let first : c.turn_first-first.result.0 < c.args.counts.links = omega (arith, (good_book _ _ c.requires.book_value).turn _ c.requires.walks_len.1) in
+    omega (arith, c.link_cost.ensures, link_limit c.args.book.now c.args.counts [] c.requires.book_value _ first, c.turn_cost.ensures, turn_limit c.args.book.now c.args.counts c.args.walks.now c.requires.book_value c.args.turn.0 c.requires.walks_len.1, c.type_inv.walks c.args.turn.0)
 
 pub returns : goal.returns
 unfolding start_entry

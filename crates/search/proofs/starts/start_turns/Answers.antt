@@ -1,12 +1,8 @@
 -- The entries passed are filled.
-use Prim.Native.Nat.{◌-◌}
 use borrow.Author.Rules.{rules}
 use native.Mathlib.Omega.{arith}
-use Rattle.search.specs.steps.Starts.{start_entry}
-use Rattle.walk.specs.Labels.{three}
-use Rattle.walk.specs.View.{view_with}
 use Rattle.book.proofs.GoodBook.{good_book}
-use Rattle.search.proofs.FilledTables.{TableFilled, none_placed, one_placed, all_placed}
+use Rattle.search.proofs.FilledTables.{none_placed, one_placed, all_placed}
 use Rattle.search.proofs.starts.start_turns.Goals as goal
 
 pub turns-init : goal.turns-init

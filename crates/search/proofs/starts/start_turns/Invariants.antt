@@ -1,11 +1,8 @@
 use Prim.Native.Nat.{◌-◌}
-use borrow.Author.Rules.{rules}
-use native.Mathlib.Omega.{arith}
 use Rattle.search.specs.steps.Starts.{start_entry}
 use Rattle.walk.specs.Labels.{three}
 use Rattle.walk.specs.View.{view_with}
-use Rattle.book.proofs.GoodBook.{good_book}
-use Rattle.search.proofs.FilledTables.{TableFilled, none_placed, one_placed, all_placed}
+use Rattle.search.proofs.FilledTables.{TableFilled}
 use Rattle.search.proofs.starts.start_turns.Given as goal
 
 abbrev pub invariant-turns : goal.invariant-turns

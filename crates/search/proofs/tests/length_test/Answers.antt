@@ -3,7 +3,6 @@ use mathlib.Core.Bool.{◌&&◌}
 use mathlib.Core.Path.{ap₂}
 use Rattle.book.proofs.Answers.{held, failed}
 use Rattle.search.specs.Tests.{length_test}
-use borrow.Author.Rules.{rules}
 use Rattle.search.proofs.tests.length_test.Goals as goal
 
 pub returns-then-not-fits : goal.returns-then-not-fits

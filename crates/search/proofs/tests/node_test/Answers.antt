@@ -1,7 +1,6 @@
 -- The test stands where the answer so far is good.
 use borrow.Author.Tests.{le-ltb, lt-ltb}
 use Rattle.search.specs.Tests.{node_test}
-use borrow.Author.Rules.{rules}
 use Rattle.search.proofs.tests.node_test.Goals as goal
 
 pub returns-then-counts-node : goal.returns-then-counts-node

@@ -1,5 +1,5 @@
 -- The last link is stored, and the rest is read back from the turn before, with one link less.
-use Rattle.std.proofs.Common.{arith, ◌∙◌}
+use Rattle.std.proofs.Common.{arith}
 use lib.ListN.{length-set}
 use Rattle.search.proofs.TrailLaws.{traced_links, written_start, traced_back, written_back}
 use Rattle.search.proofs.Labelling.{few}

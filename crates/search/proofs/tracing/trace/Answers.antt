@@ -1,6 +1,5 @@
 -- A link without a back is the whole walk; any other ends the walk of its back turn.
 use native.Mathlib.Omega.{arith}
-use borrow.Author.Rules.{rules}
 use Rattle.search.proofs.TrailLaws.{link_traced, written_one, traced_last, written_last}
 use Rattle.search.proofs.Labelling.{few}
 use Rattle.search.proofs.tracing.trace.Goals as goal

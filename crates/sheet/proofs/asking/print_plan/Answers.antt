@@ -1,26 +1,24 @@
 -- What the plan found is what is printed, and its line has room.
 use mathlib.Core.Path.{sym}
 use native.Mathlib.Omega.{arith}
-use Rattle.sheet.specs.Sheet.{Planned}
 use Rattle.sheet.proofs.Longest.{longest_plan}
-use Rattle.sheet.proofs.Plans.{refusal_fields, refusal_planned, Led, route_led, led_planned}
-use borrow.Author.Rules.{rules}
+use Rattle.sheet.proofs.Plans.{refusal_planned, route_led, led_planned}
 use Rattle.sheet.proofs.asking.print_plan.Goals as goal
 
 pub put_refusal-requires : goal.put_refusal-requires
-put_refusal-requires c = omega (arith, longest_plan _ _ _ _ ((let fact : Planned c.args.book.now c.args.origin.0 c.args.destination.0 (refusal_fields c.in-Refused.found) = refusal_planned _ _ _ _ _ _ c.plan.ensures _ c.in-Refused.is in fact)), c.requires.1)
+put_refusal-requires c = omega (arith, longest_plan _ _ _ _ (refusal_planned _ _ _ _ _ _ c.plan.ensures _ c.in-Refused.is), c.requires.1)
 
 pub slice_bounds-links-end : goal.slice_bounds-links-end
-slice_bounds-links-end c = ((let fact : Led c.args.book.now c.args.origin.0 c.args.destination.0 c.plan.new.links c.in-Done.cost c.in-Done.count = route_led _ _ _ _ _ _ _ _ c.plan.ensures c.in-Done.is in fact)).within
+slice_bounds-links-end c = (route_led _ _ _ _ _ _ _ _ c.plan.ensures c.in-Done.is).within
 
 pub slice_bounds-print_route-end : goal.slice_bounds-print_route-end
-slice_bounds-print_route-end c = sym ((let fact : Led c.args.book.now c.args.origin.0 c.args.destination.0 c.plan.new.links c.in-Done.cost c.in-Done.count = route_led _ _ _ _ _ _ _ _ c.plan.ensures c.in-Done.is in fact)).front
+slice_bounds-print_route-end c = sym (route_led _ _ _ _ _ _ _ _ c.plan.ensures c.in-Done.is).front
 
 pub print_route-requires : goal.print_route-requires
-print_route-requires c = omega (arith, longest_plan _ _ _ _ (led_planned ((let fact : Led c.args.book.now c.args.origin.0 c.args.destination.0 c.plan.new.links c.in-Done.cost c.in-Done.count = route_led _ _ _ _ _ _ _ _ c.plan.ensures c.in-Done.is in fact))), c.requires.1)
+print_route-requires c = omega (arith, longest_plan _ _ _ _ (led_planned (route_led _ _ _ _ _ _ _ _ c.plan.ensures c.in-Done.is)), c.requires.1)
 
 pub returns-in-Refused : goal.returns-in-Refused
-returns-in-Refused c = record { fields = _; planned = (let fact : Planned c.args.book.now c.args.origin.0 c.args.destination.0 (refusal_fields c.in-Refused.found) = refusal_planned _ _ _ _ _ _ c.plan.ensures _ c.in-Refused.is in fact); text_after = c.put_refusal.ensures.0; end_at = c.put_refusal.ensures.1 }
+returns-in-Refused c = record { fields = _; planned = (refusal_planned _ _ _ _ _ _ c.plan.ensures _ c.in-Refused.is); text_after = c.put_refusal.ensures.0; end_at = c.put_refusal.ensures.1 }
 
 pub returns-in-Done : goal.returns-in-Done
-returns-in-Done c = record { fields = _; planned = led_planned ((let fact : Led c.args.book.now c.args.origin.0 c.args.destination.0 c.plan.new.links c.in-Done.cost c.in-Done.count = route_led _ _ _ _ _ _ _ _ c.plan.ensures c.in-Done.is in fact)); text_after = c.print_route.ensures.0; end_at = c.print_route.ensures.1 }
+returns-in-Done c = record { fields = _; planned = led_planned (route_led _ _ _ _ _ _ _ _ c.plan.ensures c.in-Done.is); text_after = c.print_route.ensures.0; end_at = c.print_route.ensures.1 }

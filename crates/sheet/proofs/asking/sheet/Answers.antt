@@ -6,7 +6,6 @@ use Rattle.sheet.specs.Sheet.{before_book, short, no_room, printed}
 use Rattle.sheet.proofs.Longest.{refusal_line}
 use Rattle.fare.proofs.GoodFares.{rest_whole}
 use Rattle.sheet.proofs.Plans.{line_said}
-use borrow.Author.Rules.{rules}
 use Rattle.sheet.proofs.asking.sheet.Goals as goal
 
 pub returns-then-text-lt-LONGEST_LINE : goal.returns-then-text-lt-LONGEST_LINE

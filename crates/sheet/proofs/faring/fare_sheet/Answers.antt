@@ -7,7 +7,6 @@ use Rattle.sheet.specs.FareSheet.{before_fare_book, short, asked, no_room}
 use Rattle.sheet.proofs.Longest.{refusal_line}
 use Rattle.sheet.proofs.FareText.{one_put, lines_told}
 use Rattle.sheet.proofs.FarePlans.{book_part, table_part, text_said, plan_moved}
-use borrow.Author.Rules.{rules}
 use Rattle.sheet.proofs.faring.fare_sheet.Goals as goal
 
 pub returns-then-text-lt-LONGEST_TEXT : goal.returns-then-text-lt-LONGEST_TEXT

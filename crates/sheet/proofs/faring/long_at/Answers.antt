@@ -1,7 +1,6 @@
 -- Two numbers of two bytes, low one first.
 use mathlib.Core.Path.{◌∙◌}
 use Rattle.sheet.specs.FareSheet.{long_at}
-use borrow.Author.Rules.{rules}
 use Rattle.sheet.proofs.faring.long_at.Goals as goal
 
 pub returns : goal.returns

@@ -5,7 +5,6 @@ use mathlib.Core.Path.{◌≡◌, sym, ◌∙◌}
 use native.Mathlib.Omega.{arith}
 use Rattle.sheet.specs.FareSheet.{entry_bytes}
 use Rattle.sheet.proofs.FareTables.{other_bytes, all_entries, whole_good}
-use borrow.Author.Rules.{rules}
 use borrow.Author.Tests.{eq-eqb, ne_eqb}
 use Rattle.sheet.proofs.faring.read_fares.Goals as goal
 

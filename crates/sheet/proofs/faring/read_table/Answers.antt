@@ -1,12 +1,9 @@
 -- The entries passed stand at the front of the table.
-use Prim.Native.Nat.{◌-◌, ◌*◌, ◌≤◌}
-use mathlib.Core.Path.{◌≡◌, refl, ◌∙◌}
+use mathlib.Core.Path.{refl, ◌∙◌}
 use native.Mathlib.Omega.{arith}
-use lib.ListN.{length, length-set}
-use borrow.Author.Rules.{rules}
+use lib.ListN.{length-set}
 use Rattle.walk.specs.View.{up_to}
-use Rattle.walk.proofs.Filling.{Filled, one_filled, all_filled}
-use Rattle.sheet.specs.FareSheet.{long_at, entry_bytes}
+use Rattle.walk.proofs.Filling.{one_filled, all_filled}
 use Rattle.sheet.proofs.faring.read_table.Goals as goal
 
 pub loop-passed-init : goal.loop-passed-init

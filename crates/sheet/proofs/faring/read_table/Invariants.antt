@@ -1,10 +1,7 @@
 use Prim.Native.Nat.{◌-◌, ◌*◌, ◌≤◌}
-use mathlib.Core.Path.{◌≡◌, refl, ◌∙◌}
-use native.Mathlib.Omega.{arith}
-use lib.ListN.{length, length-set}
-use borrow.Author.Rules.{rules}
-use Rattle.walk.specs.View.{up_to}
-use Rattle.walk.proofs.Filling.{Filled, one_filled, all_filled}
+use mathlib.Core.Path.{◌≡◌}
+use lib.ListN.{length}
+use Rattle.walk.proofs.Filling.{Filled}
 use Rattle.sheet.specs.FareSheet.{long_at, entry_bytes}
 use Rattle.sheet.proofs.faring.read_table.Given as goal
 

@@ -1,5 +1,4 @@
 -- Each amount stands at its place.
-use borrow.Author.Rules.{rules}
 use Rattle.sheet.proofs.faring.terms_of.Goals as goal
 
 pub returns : goal.returns

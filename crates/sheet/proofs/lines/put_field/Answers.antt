@@ -4,7 +4,6 @@ use native.Mathlib.Omega.{arith}
 use lib.ListN.{length}
 use Rattle.sheet.proofs.StoreLaws.{then}
 use Rattle.sheet.proofs.LineLaws.{further_one}
-use borrow.Author.Rules.{rules}
 use Rattle.sheet.proofs.lines.put_field.Goals as goal
 
 pub put_byte-next-requires : goal.put_byte-next-requires

@@ -1,12 +1,10 @@
 -- The fields of the links passed are stored.
-use borrow.Author.Rules.{rules}
-use Prim.Native.Nat.{ℕ, ◌-◌, ◌≤◌}
+use Prim.Native.Nat.{ℕ}
 use mathlib.Core.Path.{ap}
 use mathlib.Core.List.{[], ◌∷◌}
 use native.Mathlib.Omega.{arith}
-use lib.ListN.{length, take}
+use lib.ListN.{length}
 use Rattle.sheet.specs.Line.{further}
-use Rattle.sheet.specs.steps.Storing.{Stored}
 use Rattle.sheet.proofs.StoreLaws.{stored_length}
 use Rattle.sheet.proofs.LineLaws.{taken_within, none_stored, one_stored, all_stored}
 use Rattle.sheet.proofs.lines.put_links.Goals as goal

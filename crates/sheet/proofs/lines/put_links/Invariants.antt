@@ -1,13 +1,7 @@
-use borrow.Author.Rules.{rules}
-use Prim.Native.Nat.{ℕ, ◌-◌, ◌≤◌}
-use mathlib.Core.Path.{ap}
-use mathlib.Core.List.{[], ◌∷◌}
-use native.Mathlib.Omega.{arith}
+use Prim.Native.Nat.{◌-◌, ◌≤◌}
 use lib.ListN.{length, take}
 use Rattle.sheet.specs.Line.{further}
 use Rattle.sheet.specs.steps.Storing.{Stored}
-use Rattle.sheet.proofs.StoreLaws.{stored_length}
-use Rattle.sheet.proofs.LineLaws.{taken_within, none_stored, one_stored, all_stored}
 use Rattle.sheet.proofs.lines.put_links.Given as goal
 
 abbrev pub invariant-loop-passed : goal.invariant-loop-passed

@@ -2,7 +2,6 @@
 use native.Mathlib.Omega.{arith}
 use Rattle.sheet.proofs.StoreLaws.{then}
 use Rattle.sheet.proofs.LineLaws.{line_one, length_one}
-use borrow.Author.Rules.{rules}
 use Rattle.sheet.proofs.lines.put_number.Goals as goal
 
 pub put_decimal-next-requires : goal.put_decimal-next-requires

@@ -2,7 +2,6 @@
 use native.Mathlib.Omega.{arith}
 use Rattle.sheet.proofs.StoreLaws.{then, whole}
 use Rattle.sheet.proofs.LineLaws.{line_two, length_two}
-use borrow.Author.Rules.{rules}
 use Rattle.sheet.proofs.lines.put_refusal.Goals as goal
 
 pub put_decimal-at-requires : goal.put_decimal-at-requires

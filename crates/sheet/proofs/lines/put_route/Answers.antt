@@ -1,32 +1,28 @@
 -- A nought, the cost, the four figures and the count after their blanks, the links, and the newline.
-use Prim.Native.Nat.{◌+◌, ◌≤◌}
-use mathlib.Core.List.{[], ◌∷◌}
 use native.Mathlib.Omega.{arith}
 use lib.ListN.{length}
 use Rattle.walk.specs.Walks.{figures_of}
-use Rattle.sheet.specs.Line.{decimal, further}
 use Rattle.sheet.proofs.StoreLaws.{then, whole}
 use Rattle.sheet.proofs.LineLaws.{line_more, length_many}
-use borrow.Author.Rules.{rules}
 use Rattle.sheet.proofs.lines.put_route.Goals as goal
 
 pub put_decimal-at-requires : goal.put_decimal-at-requires
-put_decimal-at-requires c = omega (arith, (let fact : length (decimal 0) + length (further (c.args.cost ∷ [])) + length (further (figures_of c.args.split)) + length (further (length c.args.links.now ∷ [])) + length (further c.args.links.now) + 1 ≤ length c.args.text.now = omega (arith, length_many 0 c.args.cost (figures_of c.args.split) (length c.args.links.now) c.args.links.now, c.requires) in fact))
+put_decimal-at-requires c = omega (arith, length_many 0 c.args.cost (figures_of c.args.split) (length c.args.links.now) c.args.links.now, c.requires)
 
 pub put_field-at-requires : goal.put_field-at-requires
-put_field-at-requires c = omega (arith, (let fact : length (decimal 0) + length (further (c.args.cost ∷ [])) + length (further (figures_of c.args.split)) + length (further (length c.args.links.now ∷ [])) + length (further c.args.links.now) + 1 ≤ length c.args.text.now = omega (arith, length_many 0 c.args.cost (figures_of c.args.split) (length c.args.links.now) c.args.links.now, c.requires) in fact))
+put_field-at-requires c = omega (arith, length_many 0 c.args.cost (figures_of c.args.split) (length c.args.links.now) c.args.links.now, c.requires)
 
 pub put_split-at-requires : goal.put_split-at-requires
-put_split-at-requires c = omega (arith, (let fact : length (decimal 0) + length (further (c.args.cost ∷ [])) + length (further (figures_of c.args.split)) + length (further (length c.args.links.now ∷ [])) + length (further c.args.links.now) + 1 ≤ length c.args.text.now = omega (arith, length_many 0 c.args.cost (figures_of c.args.split) (length c.args.links.now) c.args.links.now, c.requires) in fact))
+put_split-at-requires c = omega (arith, length_many 0 c.args.cost (figures_of c.args.split) (length c.args.links.now) c.args.links.now, c.requires)
 
 pub put_field-at-requires-2 : goal.put_field-at-requires-2
-put_field-at-requires-2 c = omega (arith, (let fact : length (decimal 0) + length (further (c.args.cost ∷ [])) + length (further (figures_of c.args.split)) + length (further (length c.args.links.now ∷ [])) + length (further c.args.links.now) + 1 ≤ length c.args.text.now = omega (arith, length_many 0 c.args.cost (figures_of c.args.split) (length c.args.links.now) c.args.links.now, c.requires) in fact))
+put_field-at-requires-2 c = omega (arith, length_many 0 c.args.cost (figures_of c.args.split) (length c.args.links.now) c.args.links.now, c.requires)
 
 pub put_links-at-requires : goal.put_links-at-requires
-put_links-at-requires c = omega (arith, (let fact : length (decimal 0) + length (further (c.args.cost ∷ [])) + length (further (figures_of c.args.split)) + length (further (length c.args.links.now ∷ [])) + length (further c.args.links.now) + 1 ≤ length c.args.text.now = omega (arith, length_many 0 c.args.cost (figures_of c.args.split) (length c.args.links.now) c.args.links.now, c.requires) in fact))
+put_links-at-requires c = omega (arith, length_many 0 c.args.cost (figures_of c.args.split) (length c.args.links.now) c.args.links.now, c.requires)
 
 pub put_byte-requires : goal.put_byte-requires
-put_byte-requires c = omega (arith, (let fact : length (decimal 0) + length (further (c.args.cost ∷ [])) + length (further (figures_of c.args.split)) + length (further (length c.args.links.now ∷ [])) + length (further c.args.links.now) + 1 ≤ length c.args.text.now = omega (arith, length_many 0 c.args.cost (figures_of c.args.split) (length c.args.links.now) c.args.links.now, c.requires) in fact))
+put_byte-requires c = omega (arith, length_many 0 c.args.cost (figures_of c.args.split) (length c.args.links.now) c.args.links.now, c.requires)
 
 pub returns : goal.returns
 returns c = let figures = then (then c.put_decimal-at.ensures c.put_field-at.ensures) c.put_split-at.ensures in

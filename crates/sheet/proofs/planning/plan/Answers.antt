@@ -1,9 +1,7 @@
 -- The plan's own buffers, cut to the book's counts, have their lengths.
-use Prim.Native.Nat.{◌≤◌}
 use lib.Seq.{length-take-le}
 use mathlib.Core.Path.{sym}
 use Rattle.book.proofs.GoodBook.{good_book}
-use borrow.Author.Rules.{rules}
 use Rattle.sheet.proofs.planning.plan.Goals as goal
 
 pub slice_bounds-turn_cost-end : goal.slice_bounds-turn_cost-end

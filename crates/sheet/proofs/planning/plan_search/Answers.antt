@@ -1,5 +1,4 @@
 -- A search that refuses has refused the origin; one that is done hands its labels to the route.
-use borrow.Author.Rules.{rules}
 use Rattle.sheet.proofs.Finding.{search_found, route_found}
 use Rattle.sheet.proofs.planning.plan_search.Goals as goal
 

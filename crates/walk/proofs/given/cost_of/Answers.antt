@@ -1,5 +1,4 @@
 -- The check decides first.
-use borrow.Author.Rules.{rules}
 use mathlib.Core.Path.{sym, ◌∙◌}
 use Rattle.walk.specs.Given.{cost_answer}
 use Rattle.walk.proofs.given.cost_of.Goals as goal

@@ -1,13 +1,9 @@
 -- So far the walk is permitted, with the figures so far.
-use Prim.Native.Nat.{◌-◌}
 use borrow.Author.Rules.{rules}
-use lib.ListN.{length, get_or}
+use lib.ListN.{length}
 use mathlib.Core.Path.{refl, ap, ◌∙◌}
 use native.Mathlib.Omega.{arith}
-use Rattle.book.specs.Entries.{link_from}
-use Rattle.book.specs.Tables.{link_table}
-use Rattle.walk.specs.View.{view_with}
-use Rattle.walk.proofs.GivenWalks.{Along, set_out, arrived, barred_on, goes_on}
+use Rattle.walk.proofs.GivenWalks.{set_out, arrived, barred_on, goes_on}
 use Rattle.walk.proofs.Filling.{up_to_length}
 use Rattle.walk.proofs.given.cost_onward.Goals as goal
 

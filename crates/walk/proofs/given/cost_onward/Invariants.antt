@@ -1,13 +1,9 @@
 use Prim.Native.Nat.{◌-◌}
-use borrow.Author.Rules.{rules}
 use lib.ListN.{length, get_or}
-use mathlib.Core.Path.{refl, ap, ◌∙◌}
-use native.Mathlib.Omega.{arith}
 use Rattle.book.specs.Entries.{link_from}
 use Rattle.book.specs.Tables.{link_table}
 use Rattle.walk.specs.View.{view_with}
-use Rattle.walk.proofs.GivenWalks.{Along, set_out, arrived, barred_on, goes_on}
-use Rattle.walk.proofs.Filling.{up_to_length}
+use Rattle.walk.proofs.GivenWalks.{Along}
 use Rattle.walk.proofs.given.cost_onward.Given as goal
 
 abbrev pub invariant-links : goal.invariant-links

@@ -1,5 +1,4 @@
 -- The table lists two turns where the first one's run does.
-use borrow.Author.Rules.{rules}
 use Rattle.book.proofs.GoodBook.{good_book}
 use Rattle.walk.proofs.PairRuns.{listed_from}
 use Rattle.walk.proofs.Runs.{ends_within, ends_after}

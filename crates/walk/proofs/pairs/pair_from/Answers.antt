@@ -1,14 +1,10 @@
 -- The pairs passed were of earlier second turns.
-use Prim.Native.Nat.{◌-◌}
 use borrow.Author.Rules.{rules}
 use borrow.Author.Tests.{lt-ltb, le-ltb}
-use lib.Dec.{ltb}
 use mathlib.Core.Path.{refl, sym, ◌∙◌}
 use native.Mathlib.Omega.{arith}
-use Rattle.book.specs.Entries.{pair_second}
-use Rattle.book.specs.Tables.{pair_table}
 use Rattle.walk.specs.steps.Pairs.{pair_from}
-use Rattle.book.proofs.Passing.{Passing, pass, stop, done}
+use Rattle.book.proofs.Passing.{pass, stop, done}
 use Rattle.walk.proofs.pairs.pair_from.Goals as goal
 
 pub pairs-init : goal.pairs-init

@@ -1,13 +1,8 @@
 use Prim.Native.Nat.{◌-◌}
-use borrow.Author.Rules.{rules}
-use borrow.Author.Tests.{lt-ltb, le-ltb}
 use lib.Dec.{ltb}
-use mathlib.Core.Path.{refl, sym, ◌∙◌}
-use native.Mathlib.Omega.{arith}
 use Rattle.book.specs.Entries.{pair_second}
 use Rattle.book.specs.Tables.{pair_table}
-use Rattle.walk.specs.steps.Pairs.{pair_from}
-use Rattle.book.proofs.Passing.{Passing, pass, stop, done}
+use Rattle.book.proofs.Passing.{Passing}
 use Rattle.walk.proofs.pairs.pair_from.Given as goal
 
 abbrev pub invariant-pairs : goal.invariant-pairs

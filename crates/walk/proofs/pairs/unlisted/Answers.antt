@@ -1,6 +1,5 @@
 -- Case by case: the carry-over stands only where neither walk is 0.
 use Prim.Native.Nat.{◌<◌, ◌≤◌}
-use borrow.Author.Rules.{rules}
 use borrow.Author.Tests.{lt-ltb, le-ltb}
 use native.Mathlib.Omega.{arith}
 use Rattle.walk.specs.Walks.{look_up}

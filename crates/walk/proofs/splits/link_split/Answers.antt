@@ -1,5 +1,4 @@
 -- Ride and wait of the link; no turn was passed.
-use borrow.Author.Rules.{rules}
 use Rattle.walk.proofs.splits.link_split.Goals as goal
 
 pub returns : goal.returns

@@ -1,5 +1,4 @@
 -- Each figure is read where its definition says, and the extra is that of the look-up's case.
-use borrow.Author.Rules.{rules}
 use native.Mathlib.Omega.{arith}
 use Rattle.book.proofs.GoodBook.{good_book}
 use Rattle.walk.proofs.splits.turn_split.Goals as goal

@@ -1,5 +1,4 @@
 -- Ride and wait of a checked book's link are small enough that their sum fits.
-use borrow.Author.Rules.{rules}
 use mathlib.Core.List.{[]}
 use native.Mathlib.Omega.{arith}
 use Rattle.walk.proofs.GoodView.{link_limit}

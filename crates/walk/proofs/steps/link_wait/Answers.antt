@@ -1,5 +1,4 @@
 -- The line of a checked book's link exists.
-use borrow.Author.Rules.{rules}
 use Rattle.book.proofs.GoodBook.{good_book}
 use Rattle.walk.proofs.steps.link_wait.Goals as goal
 

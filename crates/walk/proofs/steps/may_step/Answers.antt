@@ -1,5 +1,4 @@
 -- The test of the walk, and that of what stands between.
-use borrow.Author.Rules.{rules}
 use Rattle.walk.proofs.steps.may_step.Goals as goal
 
 pub returns : goal.returns

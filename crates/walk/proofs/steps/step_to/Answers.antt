@@ -1,5 +1,4 @@
 -- The step is barred where the turn may not come, and else adds little enough that the sum fits.
-use borrow.Author.Rules.{rules}
 use native.Mathlib.Omega.{arith}
 use Rattle.book.proofs.Answers.{held, failed}
 use Rattle.walk.specs.steps.Pairs.{step_to}

@@ -1,7 +1,6 @@
 -- The links of a checked book's turn exist, and the test is the definition's.
 use Prim.Native.Nat.{ℕ}
 use mathlib.Core.Path.{ap, ◌∙◌}
-use borrow.Author.Rules.{rules}
 use lib.ListN.{get_or}
 use Rattle.book.specs.Tables.{link_table}
 use Rattle.book.specs.Entries.{link_line}

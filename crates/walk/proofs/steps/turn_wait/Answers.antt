@@ -1,5 +1,4 @@
 -- The wait is paid exactly where the turn is a boarding.
-use borrow.Author.Rules.{rules}
 use Rattle.book.proofs.Answers.{held, failed}
 use Rattle.book.proofs.GoodBook.{good_book}
 use Rattle.walk.proofs.steps.turn_wait.Goals as goal

@@ -1,5 +1,4 @@
 -- The ends of a run are at most the count of turns, so they fit two bytes.
-use borrow.Author.Rules.{rules}
 use native.Mathlib.Omega.{arith}
 use Rattle.book.proofs.GoodBook.{good_book}
 use Rattle.walk.proofs.Runs.{ends_within}

@@ -1,14 +1,10 @@
 -- The walks passed are filled.
-use Prim.Native.Nat.{◌-◌, ◌≤◌}
 use borrow.Author.Rules.{rules}
-use lib.ListN.{length}
-use mathlib.Core.Path.{◌≡◌, refl}
+use mathlib.Core.Path.{refl}
 use native.Mathlib.Omega.{arith}
-use Rattle.book.specs.Entries.{turn_walk}
-use Rattle.book.specs.Tables.{turn_table}
 use Rattle.walk.specs.View.{up_to}
 use Rattle.book.proofs.GoodBook.{good_book}
-use Rattle.walk.proofs.Filling.{Filled, one_filled, all_filled}
+use Rattle.walk.proofs.Filling.{one_filled, all_filled}
 use Rattle.walk.proofs.walks.read_walks.Goals as goal
 
 pub turns-init : goal.turns-init

@@ -13,8 +13,8 @@ cannot() {
 # proves and builds the program $1, called $2, where it is missing or older than a source, and says what is proved meanwhile
 built() {
     rt=$(command -v rt) || cannot "the Rattle kit's rt is not on the path"
-    program=$root/target/bin/$1
-    if [ ! -f "$program" ] || [ -n "$(find "$root/crates" "$root/crates.txt" \( -name '*.rt' -o -name '*.antt' -o -name crates.txt \) -newer "$program" | head -n 1)" ]; then
+    program=$root/crates/$1/out/$1
+    if [ ! -f "$program" ] || [ -n "$(find "$root/crates" "$root/crates.txt" -name out -prune -o \( -name '*.rt' -o -name '*.antt' -o -name crates.txt \) -newer "$program" -print | head -n 1)" ]; then
         echo "$me: proving and building the $2, which takes some minutes" >&2
         mkdir -p "$root/target"
         # the program gets the time before its check, so that a file changed meanwhile is seen
@@ -22,7 +22,7 @@ built() {
         rm -f "$root/target/$me.passed"
         {
             (cd "$root" && rt check "$1" 2>&1) && echo passed >"$root/target/$me.passed"
-        } | tee "$root/target/$me.log" | sed -n "s/^rt: \(.* proved ([0-9]* s)\)$/$me: \1/p" >&2
+        } | tee "$root/target/$me.log" | sed -n "s/^rt: chose .* for \([a-z_]*\)$/$me: proving \1/p" >&2
         [ -f "$root/target/$me.passed" ] && [ -f "$program" ] || {
             cat "$root/target/$me.log" >&2
             cannot "the $2 did not pass its check"
@@ -32,11 +32,7 @@ built() {
     fi
 }
 
-# runs the program that was built; programs are built for x86-64, and on another machine the kit has an emulator
+# runs the program that was built, which is one for x86-64
 run() {
-    kit=$(cd "$(dirname "$(readlink -f "$rt")")/.." && pwd -P)
-    tools=$kit/on/$(uname -m)/toolchain
-    emulator=$tools/bin/qemu-x86_64
-    [ -x "$emulator" ] || emulator=
-    ${emulator:+"$emulator"} "$tools/lib/ld-linux-x86-64.so.2" --library-path "$tools/lib" "$program" "$@"
+    "$program" "$@"
 }

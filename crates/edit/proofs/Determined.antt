@@ -46,5 +46,5 @@ module _ (book : List ℕ) (r turn walk : ℕ) (turns links : Table) where
       let written : b' ≡ with_walk book counts turn walk = subst (λ (x : Counts). b' ≡ with_walk book x turn walk) same f' in
       let labels : LabelsOf (with_walk book counts turn walk) r t l counts = subst (λ (seen : List ℕ). LabelsOf seen r t l counts) f z in
       let labels' : LabelsOf (with_walk book counts turn walk) r t' l' counts = subst (λ (seen : List ℕ). LabelsOf seen r t' l' counts) written (subst (LabelsOf b' r t' l') same z') in
-      let (Turns-same, links_same) = labels_one (with_walk book counts turn walk) counts (edited_good book r turn walk turns links counts e) r t l t' l' labels labels' in
-      (a ∙ sym (rw (same, ← Turns-same, ← links_same) at a'), f ∙ sym written, Turns-same, links_same)
+      let (turns_same, links_same) = labels_one (with_walk book counts turn walk) counts (edited_good book r turn walk turns links counts e) r t l t' l' labels labels' in
+      (a ∙ sym (rw (same, ← turns_same, ← links_same) at a'), f ∙ sym written, turns_same, links_same)

@@ -141,10 +141,10 @@ same_value book r turn walk turns links answer book-after turns-after links-afte
     let known = edit_passed book r turn walk turns links counts tested in
     let wrote-there : book-after ≡ with_walk book counts turn walk = written ∙ ap (λ (x : Counts). with_walk book x turn walk) same in
     let new-there = subst (λ (x : List ℕ). TrueLabels (view_of x counts) r turns-after links-after) wrote-there (subst (λ (x : Counts). TrueLabels (view_of book-after x) r turns-after links-after) same new) in
-    let (Turns-same, links_same) = labels_one book counts known.checked r turns-after links-after turns links (still_true book counts turn walk known.checked known.listed known.allowed stored r turns-after links-after new-there) labels in
+    let (turns_same, links_same) = labels_one book counts known.checked r turns-after links-after turns links (still_true book counts turn walk known.checked known.listed known.allowed stored r turns-after links-after new-there) labels in
     record {
-      answered = counted ∙ rw (Turns-same, links_same, none_differ (entry_at turns) own.turns, none_differ (entry_at links) own.links) refl;
-      turns_kept = Turns-same;
+      answered = counted ∙ rw (turns_same, links_same, none_differ (entry_at turns) own.turns, none_differ (entry_at links) own.links) refl;
+      turns_kept = turns_same;
       links_kept = links_same;
       book_kept = λ small. wrote-there ∙ ap (with_walk book counts turn) (sym stored) ∙ stored_at book counts turn known.checked known.listed small;
     }

@@ -21,7 +21,7 @@ use Rattle.search.proofs.RouteRoom.{node_leaves}
 use Rattle.search.proofs.RouteAccounted.{route_costed}
 use Rattle.sheet.specs.declared.Sheeted.TheVariants.{Line}
 use Rattle.sheet.specs.Sheet.{before_book, origin_of, destination_of, book_of, route_fields, fields_of, Planned, refused, no_walk, done, asked, longest_line, Sheet, printed}
-use Rattle.sheet.specs.steps.Planning.{Found, refused as found-refused, no_walk as Found-None, done as found-route}
+use Rattle.sheet.specs.steps.Planning.{Found, refused as found_refused, no_walk as found_none, done as found_route}
 use Rattle.sheet.specs.steps.Routes.{asked_fields}
 use Rattle.sheet.specs.steps.Asking.{LinePut}
 
@@ -43,18 +43,18 @@ pub record Led (book : List ℕ) (r s : ℕ) (after : List ℕ) (cost count : �
 
 module _ (book : List ℕ) (r s : ℕ) (buffer : List ℕ) (answer : Routed) (after : List ℕ) where
   pub refusal_planned : Found book r s buffer answer after → (found : Refusal) → answer ≡ RouteRefused found → Planned book r s (refusal_fields found)
-  refusal_planned (found-refused own e a left) found told =
+  refusal_planned (found_refused own e a left) found told =
       let same : own ≡ found = cc (told, a) in
       refused own e (ap refusal_fields (sym same))
-  refusal_planned (Found-None counts e none a left) found told =
+  refusal_planned (found_none counts e none a left) found told =
       let same : refusal 14 0 ≡ found = cc (told, a) in
       no_walk counts e none (ap refusal_fields (sym same))
-  refusal_planned (found-route counts e links route a left) found told = clash (cc (told, a))
+  refusal_planned (found_route counts e links route a left) found told = clash (cc (told, a))
 
   pub route_led : (cost count : ℕ) → Found book r s buffer answer after → answer ≡ RouteDone cost count → Led book r s after cost count
-  route_led cost count (found-refused own e a left) told = clash (cc (told, a))
-  route_led cost count (Found-None counts e none a left) told = clash (cc (told, a))
-  route_led cost count (found-route counts e links route a left) told =
+  route_led cost count (found_refused own e a left) told = clash (cc (told, a))
+  route_led cost count (found_none counts e none a left) told = clash (cc (told, a))
+  route_led cost count (found_route counts e links route a left) told =
       let same : length links ≡ count = cc (told, a) in
       let cost_same : cost ≡ cost_of (view_of book counts) links = cc (told, a) in
       let links_same : take count after ≡ links = ap (take count) left ∙ take_at links (drop (length links) buffer) count same in

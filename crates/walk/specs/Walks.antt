@@ -38,7 +38,7 @@ abbrev pub carried_if : Bool → ℕ → Between
 carried_if true carried = CarriedOver carried
 carried_if false carried = Nothing
 
--- document 004's cost between two turns: the listed extra stands; if the pair is unlisted, the carry_over where both walks are above 0, else nothing
+-- document 004's cost between two turns: the listed extra stands; if the pair is unlisted, the carry-over where both walks are above 0, else nothing
 unfoldable pub look_up : Option ℕ → ℕ → ℕ → ℕ → Between
 look_up (some extra) carried before after = listed_as (eqb extra barred) extra
 look_up none carried before after = carried_if (ltb 0 before && ltb 0 after) carried

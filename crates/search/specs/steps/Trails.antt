@@ -9,9 +9,9 @@ pub data Trail (U : View) (back : List ℕ) : ℕ → List ℕ → Type 0 where
   more : (t p : ℕ) {before walk : List ℕ} → t < U.turns → get_or back t 0 ≡ p → p < U.turns → Trail U back p before → walk ≡ before ++ (U.second t ∷ []) → Trail U back t walk
 
 -- the link alone, or the walk of the turn that its back says
-pub data LinkTrail (U : View) (turn-back link_back_lem : List ℕ) : ℕ → List ℕ → Type 0 where
-  one : (l : ℕ) {walk : List ℕ} → l < U.links → get_or link_back_lem l 0 ≡ start_back → walk ≡ l ∷ [] → LinkTrail U turn-back link_back_lem l walk
-  last : (l t : ℕ) {walk : List ℕ} → l < U.links → get_or link_back_lem l 0 ≡ t → t < U.turns → Trail U turn-back t walk → LinkTrail U turn-back link_back_lem l walk
+pub data LinkTrail (U : View) (turn_back link_back : List ℕ) : ℕ → List ℕ → Type 0 where
+  one : (l : ℕ) {walk : List ℕ} → l < U.links → get_or link_back l 0 ≡ start_back → walk ≡ l ∷ [] → LinkTrail U turn_back link_back l walk
+  last : (l t : ℕ) {walk : List ℕ} → l < U.links → get_or link_back l 0 ≡ t → t < U.turns → Trail U turn_back t walk → LinkTrail U turn_back link_back l walk
 
 -- there is a walk with this trail, it has so many links, and there is room for it
 pub record Traced (Leads : List ℕ → Type 0) (links room : ℕ) : Type 0 where

@@ -21,7 +21,8 @@ built() {
         touch "$root/target/$me.mark"
         rm -f "$root/target/$me.passed"
         {
-            (cd "$root" && rt check "$1" 2>&1) && echo passed >"$root/target/$me.passed"
+            # on an empty input, for the program that it builds
+            (cd "$root/crates/$1" && rt run 2>&1 </dev/null >/dev/null) && echo passed >"$root/target/$me.passed"
         } | tee "$root/target/$me.log" | sed -n "s/^rt: chose .* for \([a-z_]*\)$/$me: proving \1/p" >&2
         [ -f "$root/target/$me.passed" ] && [ -f "$program" ] || {
             cat "$root/target/$me.log" >&2

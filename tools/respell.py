@@ -4,7 +4,8 @@
 usage: respell.py [--check]      at the top of the repository
 
 A name that a file takes from a library keeps its spelling there, and so does a dash between names of the
-library's own functions, as in `sum-map-reverse`. With --check it only prints old and new names. A second run changes nothing.
+library's own functions, as in `sum-map-reverse`. With --check it only prints old and new names. It was run once,
+on the older tree that the kit's port.py had turned, and is kept so that what it did can be seen again.
 """
 
 import glob

@@ -5,17 +5,17 @@ use mathlib.Core.List.{List, [], ◌∷◌}
 use mathlib.Core.Bool.{Bool, true, ◌&&◌}
 use lib.Dec.{eqb}
 use borrow.Author.Tests.{eqb-true}
-use Rattle.book.specs.declared.Refusal.{Refusal}
-use Rattle.book.specs.declared.Checked.TheVariants.{Good}
+use Rattle.book.specs.declared.GivenBack.{GivenBack}
+use Rattle.std.specs.Prelude.{Ok}
 use Rattle.book.specs.Number.{number_at, with_number}
 use Rattle.book.specs.Header.{mark_good, version_good, counts_of, counts_good}
 use Rattle.book.specs.Entries.{line_good, link_good, seconds_good, ascends, join_good}
 use Rattle.book.specs.FirstBad.{first_bad_from}
-use Rattle.book.specs.Check.{tables_of, check_of, given_back, refusal}
+use Rattle.book.specs.Check.{tables_of, check_of, given_back, given}
 use Rattle.book.specs.BookA.{book_a, counts_a}
 use Rattle.book.proofs.Limits.{both}
 
-pub book_a_good : check_of book_a ≡ Good counts_a
+pub book_a_good : check_of book_a ≡ Ok counts_a
 unfolding check_of tables_of first_bad_from number_at mark_good version_good counts_of counts_good line_good link_good join_good ascends seconds_good
 book_a_good = refl
 
@@ -29,7 +29,7 @@ record Row : Type 0 where
 abbrev row : ℕ → ℕ → ℕ → ℕ → Row
 row at value number place = record { at = at; value = value; number = number; place = place }
 
-abbrev answer : Row → Refusal
+abbrev answer : Row → GivenBack
 answer r = given_back (check_of (with_number book_a r.at r.value))
 
 abbrev rows : List Row
@@ -81,13 +81,13 @@ rows =
 
 abbrev Every : List Row → Type 0
 Every [] = Unit
-Every (r ∷ rest) = (answer r ≡ refusal r.number r.place) × Every rest
+Every (r ∷ rest) = (answer r ≡ given r.number r.place) × Every rest
 
 abbrev tested : List Row → Bool
 tested [] = true
 tested (r ∷ rest) = (eqb (answer r).number r.number && eqb (answer r).place r.place) && tested rest
 
-same : (found : Refusal) (number place : ℕ) → (eqb found.number number && eqb found.place place) ≡ true → found ≡ refusal number place
+same : (found : GivenBack) (number place : ℕ) → (eqb found.number number && eqb found.place place) ≡ true → found ≡ given number place
 same found number place h =
     let (n, p) = both _ _ h in
     let a : found.number ≡ number = eqb-true _ _ n in

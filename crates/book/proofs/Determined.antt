@@ -2,7 +2,7 @@
 use Prim.Native.Nat.{ℕ}
 use mathlib.Core.Path.{◌≡◌, sym, ◌∙◌}
 use mathlib.Core.List.{List}
-use Rattle.book.specs.declared.Checked.{Checked}
+use Rattle.book.specs.Check.{Checked}
 use Rattle.book.specs.Check.{check_of}
 
 pub check_determined : (book : List ℕ) (one other : Checked) → one ≡ check_of book → other ≡ check_of book → one ≡ other

@@ -4,7 +4,7 @@ use mathlib.Core.Path.{◌≡◌}
 use mathlib.Core.List.{List}
 use lib.ListN.{length}
 use Rattle.book.specs.declared.Counts.{Counts}
-use Rattle.book.specs.declared.Checked.TheVariants.{Good}
+use Rattle.std.specs.Prelude.{Ok}
 use Rattle.book.specs.Header.{counts_of}
 use Rattle.book.specs.Tables.{book_end, line_table, link_table, turn_table, pair_table}
 use Rattle.book.specs.Entries.{line_headway, most_headway, link_from, link_to, turn_first, turn_second}
@@ -24,7 +24,7 @@ pub record GoodBook (book : List ℕ) (counts : Counts) : Type 0 where
   pub pair : (k : ℕ) → k < counts.pairs → JoinRules counts.turns (turn_second (turn_table book counts)) (turn_first (turn_table book counts)) (pair_table book counts) k
   pub pairs : Ascending (pair_table book counts) counts.pairs
 
-module _ (book : List ℕ) (counts : Counts) (h : check_of book ≡ Good counts) where
+module _ (book : List ℕ) (counts : Counts) (h : check_of book ≡ Ok counts) where
   turn_good : (k : ℕ) → k < counts.turns → JoinRules counts.links (link_to (link_table book counts)) (link_from (link_table book counts)) (turn_table book counts) k
   turn_good k l = join_rules _ _ _ _ k ((passes book counts h).tables.turn k l)
 

@@ -8,12 +8,13 @@ use lib.Dec.{eqb}
 use lib.ListN.{length, get_or}
 use borrow.Author.Tests.{le-leb, ne_eqb}
 use Rattle.book.specs.declared.Refusal.{Refusal}
+use Rattle.book.specs.declared.Refusal.TheVariants.{Mark, Version, Limit, Length}
 use Rattle.book.specs.declared.Counts.{Counts}
-use Rattle.book.specs.declared.Checked.TheVariants.{Good, Refused}
+use Rattle.std.specs.Prelude.{Ok, Err}
 use Rattle.book.specs.Number.{number_at}
 use Rattle.book.specs.Header.{header_bytes, mark_good, version_good, counts_of, counts_good}
 use Rattle.book.specs.Tables.{book_end}
-use Rattle.book.specs.Check.{refusal, unless, tables_in, check_of}
+use Rattle.book.specs.Check.{unless, tables_in, check_of}
 use Rattle.book.proofs.Limits.{limits}
 use Rattle.book.proofs.GoodBook.{good_book}
 
@@ -21,7 +22,7 @@ use Rattle.book.proofs.GoodBook.{good_book}
 abbrev pub largest_book : ℕ
 largest_book = 53777
 
-pub good_not_longer : (book : List ℕ) (counts : Counts) → check_of book ≡ Good counts → length book ≤ largest_book
+pub good_not_longer : (book : List ℕ) (counts : Counts) → check_of book ≡ Ok counts → length book ≤ largest_book
 good_not_longer book counts h =
     let good = good_book book counts h in
     let within = good.limited in
@@ -29,20 +30,20 @@ good_not_longer book counts h =
 
 -- tests 2, 3 and 4 of a header, and then 5
 header_answer : Bool → Bool → Bool → Refusal
-header_answer false version counts = refusal 2 0
-header_answer true false counts = refusal 3 0
-header_answer true true false = refusal 4 0
-header_answer true true true = refusal 5 0
+header_answer false version counts = Mark
+header_answer true false counts = Version
+header_answer true true false = Limit
+header_answer true true true = Length
 
 pub answered : List ℕ → Refusal
 answered book = header_answer (mark_good book) (version_good book) (counts_good (counts_of book))
 
-pub long_refused : (book : List ℕ) → largest_book < length book → check_of book ≡ Refused (answered book)
+pub long_refused : (book : List ℕ) → largest_book < length book → check_of book ≡ Err (answered book)
 unfolding check_of answered header_answer
 long_refused book long = rw (le-leb header_bytes (length book) (omega arith)) (by (mark_good book) (version_good book) (counts_good (counts_of book)) refl)
   where
     by : (mark version counts : Bool) → counts_good (counts_of book) ≡ counts
-        → unless mark (refusal 2 0) (unless version (refusal 3 0) (unless counts (refusal 4 0) (unless (eqb (length book) (book_end (counts_of book))) (refusal 5 0) (tables_in book (counts_of book))))) ≡ Refused (header_answer mark version counts)
+        → unless mark Mark (unless version Version (unless counts Limit (unless (eqb (length book) (book_end (counts_of book))) Length (tables_in book (counts_of book))))) ≡ Err (header_answer mark version counts)
     by false version counts h = refl
     by true false counts h = refl
     by true true false h = refl
@@ -73,4 +74,4 @@ module _ (book other : List ℕ) (same : (k : ℕ) → k < header_bytes → get_
       )
 
   pub long_same : largest_book < length book → largest_book < length other → check_of book ≡ check_of other
-  long_same long long-other = long_refused book long ∙ ap Refused answered_same ∙ sym (long_refused other long-other)
+  long_same long long-other = long_refused book long ∙ ap Err answered_same ∙ sym (long_refused other long-other)

@@ -2,8 +2,10 @@
 use Prim.Native.Nat.{◌≤◌}
 use mathlib.Core.Path.{◌≡◌, refl}
 use mathlib.Core.Bool.{Bool, true, false, ◌&&◌}
+use native.Mathlib.Omega.{arith}
 use borrow.Author.Tests.{leb-true}
 use Rattle.book.specs.declared.Counts.{Counts}
+use Rattle.book.specs.Tables.{book_end}
 use Rattle.book.specs.Header.{counts_good, most_nodes, most_lines, most_links, most_turns, most_pairs, most_carry_over}
 
 -- both of two tests hold
@@ -35,3 +37,9 @@ limits counts h =
       pairs = leb-true _ _ p;
       carry_over = leb-true _ _ o;
     }
+
+-- so the length that they give is far below the largest number
+pub end_limited : (counts : Counts) → counts_good counts ≡ true → book_end counts ≤ 53777
+end_limited counts h =
+    let within = limits counts h in
+    omega (arith, within.lines, within.links, within.turns, within.pairs)

@@ -1,12 +1,12 @@
 -- A table's scan answers by the first bad entry: clean where it has passed them all, else the refusal and the entry's number.
 use Prim.Native.Nat.{ℕ, ◌+◌, ◌-◌, ◌≤◌, ◌<◌}
 use mathlib.Core.Path.{◌≡◌, refl, ap, ◌∙◌, sym}
-use mathlib.Core.Bool.{Bool, true, false, not}
+use mathlib.Core.Bool.{Bool, true, false}
 use native.Mathlib.Omega.{arith}
-use borrow.Author.Tests.{le-leb, lt-leb, not-true, not-false}
-use Rattle.book.specs.declared.entries.Scanned.TheVariants.{Clean, Bad}
+use borrow.Author.Tests.{le-leb, lt-leb}
+use Rattle.std.specs.Prelude.{Ok, Err}
+use Rattle.book.specs.declared.Refusal.{Refusal}
 use Rattle.book.specs.FirstBad.{first_bad, first_bad_from}
-use Rattle.book.specs.Check.{refusal}
 use Rattle.book.specs.steps.Scan.{scan}
 use Rattle.book.proofs.Passing.{Passing, pass, stop, done}
 
@@ -22,19 +22,19 @@ module _ (good : ℕ → Bool) (count k : ℕ) (passed : Passed good count k) wh
       let e : count ≡ count - 0 = omega arith in
       ap (first_bad_from good 0) e
 
-  pub clean : (number : ℕ) → count ≤ k → Clean ≡ scan number good count
+  pub clean : (bad : ℕ → Refusal) → count ≤ k → Ok tt ≡ scan bad good count
   unfolding scan
-  clean number h =
+  clean bad h =
       let f : first_bad good count ≡ k = whole ∙ done good 0 count k passed h in
       rw (f, le-leb _ _ h)
 
-  -- t is what the code's test of entry k gave, and the code asked whether it is false
+  -- t is what the code's test of entry k gave
   module _ (h : k < count) {t : Bool} (tested : t ≡ good k) where
-    pub one_more : not t ≡ false → Passed good count (k + 1)
-    one_more n = pass good 0 count k passed h (sym tested ∙ not-false _ n)
+    pub one_more : t ≡ true → Passed good count (k + 1)
+    one_more e = pass good 0 count k passed h (sym tested ∙ e)
 
-    pub bad : (number : ℕ) → not t ≡ true → Bad (refusal number k) ≡ scan number good count
+    pub found : (bad : ℕ → Refusal) → t ≡ false → Err (bad k) ≡ scan bad good count
     unfolding scan
-    bad number n =
-        let f : first_bad good count ≡ k = whole ∙ stop good 0 count k passed h (sym tested ∙ not-true _ n) in
+    found bad e =
+        let f : first_bad good count ≡ k = whole ∙ stop good 0 count k passed h (sym tested ∙ e) in
         rw (f, lt-leb _ _ h)

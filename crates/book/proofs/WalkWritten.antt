@@ -8,7 +8,7 @@ use native.Mathlib.Decide.{ℕ_discrete}
 use lib.ListN.{length, get_or, length-take, length-drop}
 use borrow.Author.Tests.{lt-ltb, eq-eqb}
 use Rattle.book.specs.declared.Counts.{Counts}
-use Rattle.book.specs.declared.Checked.TheVariants.{Good}
+use Rattle.std.specs.Prelude.{Ok}
 use Rattle.book.specs.Number.{number_at, with_number}
 use Rattle.book.specs.Header.{header_bytes, mark_good, version_good, counts_of}
 use Rattle.book.specs.Tables.{join_bytes, lines_at, links_at, turns_at, pairs_at, book_end, line_table, link_table, turn_table, pair_table}
@@ -78,9 +78,9 @@ pub record WalkWritten (book : List ℕ) (counts : Counts) (turn walk : ℕ) : T
   pub new_walk : turn_walk (turn_table (with_walk book counts turn walk) counts) turn ≡ walk
   pub other_walk : (k : ℕ) → (k ≡ turn → ⊥) → turn_walk (turn_table (with_walk book counts turn walk) counts) k ≡ turn_walk (turn_table book counts) k
   pub pairs : pair_table (with_walk book counts turn walk) counts ≡ pair_table book counts
-  pub good : seconds_good walk ≡ true → check_of (with_walk book counts turn walk) ≡ Good counts
+  pub good : seconds_good walk ≡ true → check_of (with_walk book counts turn walk) ≡ Ok counts
 
-module _ (book : List ℕ) (counts : Counts) (turn walk : ℕ) (checked : check_of book ≡ Good counts) (within : turn < counts.turns) where
+module _ (book : List ℕ) (counts : Counts) (turn walk : ℕ) (checked : check_of book ≡ Ok counts) (within : turn < counts.turns) where
   abbrev edited : List ℕ
   edited = with_walk book counts turn walk
 
@@ -146,7 +146,7 @@ module _ (book : List ℕ) (counts : Counts) (turn walk : ℕ) (checked : check_
         pair = λ k l. pair_kept (turn_table book counts) turn walk _ _ k ∙ kept.tables.pair k l;
       })
 
-  edited_good : seconds_good walk ≡ true → check_of edited ≡ Good counts
+  edited_good : seconds_good walk ≡ true → check_of edited ≡ Ok counts
   edited_good good =
       checks_good edited counts
       (record {

@@ -1,58 +1,50 @@
 // Check: every list of bytes gets an answer, that of the first test that finds something.
-ghost use Rattle.std.specs.Prelude.{◌≡◌, ◌*◌, length};
-ghost use Rattle.book.specs.Tables.{line_bytes, link_bytes, join_bytes, book_end};
-ghost use Rattle.book.specs.Check.{tables_of, tables_in, check_of, given_back, refusal};
-ghost use Rattle.book.specs.declared.Checked.TheVariants.{Refused};
+ghost use Rattle.std.specs.Prelude.{◌≡◌, length};
+ghost use Rattle.book.specs.Tables.{book_end};
+ghost use Rattle.book.specs.Check.{tables_of, tables_in, check_of};
 
-use super::entries::{Scanned, scan_joins, scan_lines, scan_links};
+use super::entries::{join_good, line_good, link_good, scan};
 use super::header::{HEADER_BYTES, counts_good, counts_of, mark_good, version_good};
 use super::tables::{
-    JOIN_BYTES, LINK_BYTES, book_end, line_table, link_table, pair_table, turn_table,
+    Entries, JOIN_BYTES, LINE_BYTES, LINK_BYTES, book_end, line_table, link_table, pair_table,
+    turn_table,
 };
-use super::{Checked, Counts, Refusal};
-
-fn refused(number: u8) -> Checked
-    ensures { result ≡ Refused (refusal number 0) }
-{
-    Checked::Refused(Refusal { number, place: 0 })
-}
+use super::{Counts, Refusal};
 
 // The four tables in file order: each checker sees its part and the counts alone.
-fn check_parts(lines: &[u8], links: &[u8], turns: &[u8], pairs: &[u8], counts: Counts) -> Checked
-    requires lines_len { (length lines.now ≡ line_bytes * counts.lines) × (length links.now ≡ link_bytes * counts.links) }
-    requires turns_len { (length turns.now ≡ join_bytes * counts.turns) × (length pairs.now ≡ join_bytes * counts.pairs) }
-    ensures { result ≡ tables_of lines.now links.now turns.now pairs.now counts }
+fn check_parts(
+    lines: Entries<'_, LINE_BYTES>,
+    links: Entries<'_, LINK_BYTES>,
+    turns: Entries<'_, JOIN_BYTES>,
+    pairs: Entries<'_, JOIN_BYTES>,
+    counts: Counts,
+) -> Result<Counts, Refusal>
+    requires lines_counted { lines.count ≡ counts.lines }
+    requires links_counted { links.count ≡ counts.links }
+    requires turns_counted { turns.count ≡ counts.turns }
+    requires pairs_counted { pairs.count ≡ counts.pairs }
+    ensures { result ≡ tables_of lines.entry.bytes.now links.entry.bytes.now turns.entry.bytes.now pairs.entry.bytes.now counts }
 {
-    if let Scanned::Bad(found) = scan_lines(lines, counts.lines) {
-        return Checked::Refused(found);
-    }
-    if let Scanned::Bad(found) = scan_links(links, counts.nodes, counts.lines, counts.links) {
-        return Checked::Refused(found);
-    }
-    if let Scanned::Bad(found) = scan_joins(
-        8,
-        links,
-        LINK_BYTES,
+    scan(counts.lines, |k| line_good(lines, k), |k| Refusal::Line(k))?;
+    scan(
         counts.links,
-        turns,
+        |k| link_good(links, counts, k),
+        |k| Refusal::Link(k),
+    )?;
+    scan(
         counts.turns,
-    ) {
-        return Checked::Refused(found);
-    }
-    if let Scanned::Bad(found) = scan_joins(
-        9,
-        turns,
-        JOIN_BYTES,
-        counts.turns,
-        pairs,
+        |k| join_good(links, turns, k),
+        |k| Refusal::Turn(k),
+    )?;
+    scan(
         counts.pairs,
-    ) {
-        return Checked::Refused(found);
-    }
-    Checked::Good(counts)
+        |k| join_good(turns, pairs, k),
+        |k| Refusal::Pair(k),
+    )?;
+    Ok(counts)
 }
 
-fn check_tables(book: &[u8], counts: Counts) -> Checked
+fn check_tables(book: &[u8], counts: Counts) -> Result<Counts, Refusal>
     requires { length book.now ≡ book_end counts }
     ensures { result ≡ tables_in book.now counts }
 {
@@ -64,37 +56,24 @@ fn check_tables(book: &[u8], counts: Counts) -> Checked
 }
 
 #[tactic(auto, unfolding(crate::specs::Check::check_of))]
-pub fn check(book: &[u8]) -> Checked
+pub fn check(book: &[u8]) -> Result<Counts, Refusal>
     ensures { result ≡ check_of book.now }
 {
     if book.len() < HEADER_BYTES {
-        return refused(1);
+        return Err(Refusal::TooShort);
     }
     if !mark_good(book) {
-        return refused(2);
+        return Err(Refusal::Mark);
     }
     if !version_good(book) {
-        return refused(3);
+        return Err(Refusal::Version);
     }
     let counts = counts_of(book);
     if !counts_good(counts) {
-        return refused(4);
+        return Err(Refusal::Limit);
     }
     if book.len() != book_end(counts) {
-        return refused(5);
+        return Err(Refusal::Length);
     }
     check_tables(book, counts)
-}
-
-// Number and place of an answer, 0 and 0 where it is done.
-pub fn given_back(answer: Checked) -> Refusal
-    ensures { result ≡ given_back answer }
-{
-    match answer {
-        Checked::Good(_) => Refusal {
-            number: 0,
-            place: 0,
-        },
-        Checked::Refused(found) => found,
-    }
 }

@@ -20,6 +20,7 @@ const MOST_PAIRS: usize = 2048;
 
 const MOST_CARRY_OVER: usize = 3600;
 
+#[tactic(auto, unfolding(crate::specs::Header::mark_good))]
 pub fn mark_good(book: &[u8]) -> bool
     requires { header_bytes ≤ length book.now }
     ensures { result ≡ mark_good book.now }
@@ -27,6 +28,7 @@ pub fn mark_good(book: &[u8]) -> bool
     (book[0] == b'L') & (book[1] == b'T') & (book[2] == b'B')
 }
 
+#[tactic(auto, unfolding(crate::specs::Header::version_good))]
 pub fn version_good(book: &[u8]) -> bool
     requires { header_bytes ≤ length book.now }
     ensures { result ≡ version_good book.now }
@@ -41,6 +43,7 @@ fn count_at(book: &[u8], at: usize) -> usize
     number_at(book, at) as usize
 }
 
+#[tactic(auto, unfolding(crate::specs::Header::counts_of))]
 pub fn counts_of(book: &[u8]) -> Counts
     requires { header_bytes ≤ length book.now }
     ensures { result ≡ counts_of book.now }
@@ -61,6 +64,7 @@ pub fn counts_of(book: &[u8]) -> Counts
     }
 }
 
+#[tactic(auto, unfolding(crate::specs::Header::counts_good))]
 pub fn counts_good(counts: Counts) -> bool
     ensures { result ≡ counts_good counts }
 {

@@ -1,34 +1,35 @@
 // The day book: whether it is good, what its fields say, and the write of one turn's walk.
 #![tactic(auto)]
 
-mod carried;
+ghost use Rattle.std.specs.Prelude.{◌≡◌, Ok, length};
+ghost use Rattle.book.specs.Tables.{book_end};
+ghost use Rattle.book.specs.Check.{check_of};
+
+mod checked;
 mod checks;
 mod entries;
-mod fields;
 mod header;
 mod numbers;
+mod refusals;
 mod runs;
 mod tables;
+mod writing;
 
-pub use carried::{bytes_in, carry, counts_in};
-pub use checks::{check, given_back};
+pub use checks::check;
 pub use entries::{BARRED, seconds_good};
-pub use fields::{
-    line_headway, link_from, link_line, link_ride, link_to, pair_extra, pair_first, pair_second,
-    turn_first, turn_second, turn_walk, write_walk,
-};
 pub use header::{MOST_LINES, MOST_LINKS, MOST_TURNS};
 pub use numbers::number_at;
-pub use runs::{pairs_from, turns_from};
+pub use refusals::given_back;
+pub use writing::write_walk;
 
 // A link number, a turn number and a node number are numbered apart; none may stand where another is meant.
-#[derive(Clone, Copy)]
+#[derive(Clone, Copy, PartialEq, Eq)]
 pub struct LinkNumber(pub u16);
 
-#[derive(Clone, Copy)]
+#[derive(Clone, Copy, PartialEq, Eq)]
 pub struct TurnNumber(pub u16);
 
-#[derive(Clone, Copy)]
+#[derive(Clone, Copy, PartialEq, Eq)]
 pub struct NodeNumber(pub u16);
 
 // The figures of the header.
@@ -42,22 +43,39 @@ pub struct Counts {
     pub carry_over: usize,
 }
 
-// Document 01's number, and the place: an entry's number in its own table, or 0.
+// Why an answer is refused: documents 01 and 02, "Numbers given back", in the order of the numbers; a bad entry has its number in its own table.
 #[derive(Clone, Copy)]
-pub struct Refusal {
-    pub number: u8,
-    pub place: usize,
+pub enum Refusal {
+    TooShort,
+    Mark,
+    Version,
+    Limit,
+    Length,
+    Line(usize),
+    Link(usize),
+    Turn(usize),
+    Pair(usize),
+    NoNode,
+    Change,
+    LabelLength,
+    Label,
+    NoWalk,
+    NoRoom,
+    Fares,
 }
 
+// Document 01's number, and the place: an entry's number in its own table, or 0.
 #[derive(Clone, Copy)]
-pub enum Checked {
-    Good(Counts),
-    Refused(Refusal),
+pub struct GivenBack {
+    pub number: u8,
+    pub place: usize,
 }
 
 // A good book and the counts that its check found.
 #[derive(Clone, Copy)]
 pub struct CheckedBook<'a> {
-    bytes: &'a [u8],
-    counts: Counts,
+    pub bytes: &'a [u8],
+    pub counts: Counts,
+    ghost good: { check_of bytes.now ≡ Ok counts },
+    ghost whole: { length bytes.now ≡ book_end counts },
 }

@@ -2,19 +2,15 @@
 ghost use Rattle.std.specs.Prelude.{◌≡◌, ◌+◌, ◌<◌, length};
 ghost use Rattle.book.specs.Number.{number_at, with_number};
 
-fn widened(byte: u8) -> u16
-    ensures { (result ≡ byte) × (result < 256) }
-{
-    byte as u16
-}
-
+#[tactic(auto, unfolding(crate::specs::Number::number_at))]
 pub fn number_at(bytes: &[u8], at: usize) -> u16
     requires { at + 1 < length bytes.now }
     ensures { result ≡ number_at bytes.now at }
 {
-    widened(bytes[at]) + 256 * widened(bytes[at + 1])
+    u16::from(bytes[at]) + 256 * u16::from(bytes[at + 1])
 }
 
+#[tactic(auto, unfolding(crate::specs::Number::with_number))]
 pub fn write_number(bytes: &mut [u8], at: usize, n: u16)
     requires { at + 1 < length bytes.old }
     ensures { bytes.new ≡ with_number bytes.old at n }

@@ -1,7 +1,7 @@
 // The four tables as parts of the book, each beginning where the one before it ends.
-ghost use Rattle.std.specs.Prelude.{◌≡◌, true, ◌+◌, ◌*◌, ◌<◌, length};
+ghost use Rattle.std.specs.Prelude.{◌≡◌, true, ◌+◌, ◌*◌, ◌≤◌, ◌<◌, length};
 ghost use Rattle.book.specs.Header.{counts_good};
-ghost use Rattle.book.specs.Tables.{line_bytes, link_bytes, join_bytes, book_end, line_table, link_table, turn_table, pair_table};
+ghost use Rattle.book.specs.Tables.{book_end, lines_at, links_at, turns_at, pairs_at, part, line_table, link_table, turn_table, pair_table};
 ghost use Rattle.book.specs.Entries.{field};
 
 use super::Counts;
@@ -14,7 +14,26 @@ pub const LINK_BYTES: usize = 8;
 
 pub const JOIN_BYTES: usize = 6;
 
+// A table of `count` entries, each of SIZE bytes.
+#[derive(Clone, Copy)]
+pub struct Entries<'a, const SIZE: usize> {
+    pub bytes: &'a [u8],
+    pub count: usize,
+    ghost fits: { length bytes.now ≡ SIZE * count },
+}
+
+impl<const SIZE: usize> Entries<'_, SIZE> {
+    // The number at byte `offset` of an entry.
+    pub fn field(self, offset: usize, entry: usize) -> u16
+        requires { (entry < self.count) × (offset + 1 < SIZE) }
+        ensures { result ≡ field SIZE offset self.entry.bytes.now entry }
+    {
+        number_at(self.bytes, SIZE * entry + offset)
+    }
+}
+
 // The length that the counts give.
+#[tactic(auto, using(crate::proofs::Limits::end_limited))]
 pub fn book_end(counts: Counts) -> usize
     requires { counts_good counts ≡ true }
     ensures { result ≡ book_end counts }
@@ -26,48 +45,68 @@ pub fn book_end(counts: Counts) -> usize
         + JOIN_BYTES * counts.pairs
 }
 
-pub fn line_table(book: &[u8], counts: Counts) -> &[u8]
-    requires { length book.now ≡ book_end counts }
-    ensures { (result.now ≡ line_table book.now counts) × (length result.now ≡ line_bytes * counts.lines) }
+// The table that begins at a byte of the book.
+fn table_at<const SIZE: usize>(book: &[u8], start: usize, count: usize) -> Entries<'_, SIZE>
+    requires { start + SIZE * count ≤ length book.now }
+    ensures bytes { result.bytes.now ≡ part book.now start (start + SIZE * count) }
+    ensures count { result.count ≡ count }
 {
-    let end = HEADER_BYTES + LINE_BYTES * counts.lines;
-    &book[HEADER_BYTES..end]
+    let end = start + SIZE * count;
+    Entries {
+        bytes: &book[start..end],
+        count,
+    }
 }
 
-pub fn link_table(book: &[u8], counts: Counts) -> &[u8]
-    requires { length book.now ≡ book_end counts }
-    ensures { (result.now ≡ link_table book.now counts) × (length result.now ≡ link_bytes * counts.links) }
+fn links_at(counts: Counts) -> usize
+    requires { book_end counts < 18446744073709551616 }
+    ensures { result ≡ links_at counts }
 {
-    let start = HEADER_BYTES + LINE_BYTES * counts.lines;
-    let end = start + LINK_BYTES * counts.links;
-    &book[start..end]
+    HEADER_BYTES + LINE_BYTES * counts.lines
 }
 
-pub fn turn_table(book: &[u8], counts: Counts) -> &[u8]
-    requires { length book.now ≡ book_end counts }
-    ensures { (result.now ≡ turn_table book.now counts) × (length result.now ≡ join_bytes * counts.turns) }
+pub fn turns_at(counts: Counts) -> usize
+    requires { book_end counts < 18446744073709551616 }
+    ensures { result ≡ turns_at counts }
 {
-    let start = HEADER_BYTES + LINE_BYTES * counts.lines + LINK_BYTES * counts.links;
-    let end = start + JOIN_BYTES * counts.turns;
-    &book[start..end]
+    links_at(counts) + LINK_BYTES * counts.links
 }
 
-pub fn pair_table(book: &[u8], counts: Counts) -> &[u8]
-    requires { length book.now ≡ book_end counts }
-    ensures { (result.now ≡ pair_table book.now counts) × (length result.now ≡ join_bytes * counts.pairs) }
+fn pairs_at(counts: Counts) -> usize
+    requires { book_end counts < 18446744073709551616 }
+    ensures { result ≡ pairs_at counts }
 {
-    let start = HEADER_BYTES
-        + LINE_BYTES * counts.lines
-        + LINK_BYTES * counts.links
-        + JOIN_BYTES * counts.turns;
-    let end = start + JOIN_BYTES * counts.pairs;
-    &book[start..end]
+    turns_at(counts) + JOIN_BYTES * counts.turns
 }
 
-// The number at byte `offset` of entry k, in a table of `count` entries of `size` bytes.
-pub fn entry_field(table: &[u8], count: usize, size: usize, offset: usize, k: usize) -> u16
-    requires { (length table.now ≡ size * count) × (k < count) × (offset + 1 < size) }
-    ensures { result ≡ field size offset table.now k }
+pub fn line_table(book: &[u8], counts: Counts) -> Entries<'_, LINE_BYTES>
+    requires { length book.now ≡ book_end counts }
+    ensures bytes { result.bytes.now ≡ line_table book.now counts }
+    ensures count { result.count ≡ counts.lines }
 {
-    number_at(table, size * k + offset)
+    table_at(book, HEADER_BYTES, counts.lines)
+}
+
+pub fn link_table(book: &[u8], counts: Counts) -> Entries<'_, LINK_BYTES>
+    requires { length book.now ≡ book_end counts }
+    ensures bytes { result.bytes.now ≡ link_table book.now counts }
+    ensures count { result.count ≡ counts.links }
+{
+    table_at(book, links_at(counts), counts.links)
+}
+
+pub fn turn_table(book: &[u8], counts: Counts) -> Entries<'_, JOIN_BYTES>
+    requires { length book.now ≡ book_end counts }
+    ensures bytes { result.bytes.now ≡ turn_table book.now counts }
+    ensures count { result.count ≡ counts.turns }
+{
+    table_at(book, turns_at(counts), counts.turns)
+}
+
+pub fn pair_table(book: &[u8], counts: Counts) -> Entries<'_, JOIN_BYTES>
+    requires { length book.now ≡ book_end counts }
+    ensures bytes { result.bytes.now ≡ pair_table book.now counts }
+    ensures count { result.count ≡ counts.pairs }
+{
+    table_at(book, pairs_at(counts), counts.pairs)
 }

@@ -1,34 +1,35 @@
--- Each scan that is clean hands the answer to the next table; the first that is not gives its refusal.
-use mathlib.Core.Path.{◌∙◌}
+-- Each scan that finds nothing hands the answer to the next table; the first that does gives its refusal.
+use Rattle.std.proofs.Common.{rules, ◌∙◌, refl}
+use Rattle.std.proofs.lemmas.Result.{err_from_is_err_and}
 use Rattle.book.specs.Check.{tables_of}
+use Rattle.book.specs.declared.Refusal.TheVariants.{Line, Link, Turn, Pair}
 use Rattle.book.proofs.Answers.{bad_table, clean_table}
 use Rattle.book.proofs.checks.check_parts.Goals as goal
 
-pub returns-in-Bad : goal.returns-in-Bad
+pub returns-in_err-scan : goal.returns-in_err-scan
 unfolding tables_of
-returns-in-Bad c = bad_table _ _ _ _ c.scan_lines.ensures c.in-Bad.is
+returns-in_err-scan c =
+    let p = err_from_is_err_and c.from_residual.result c.from_residual.ensures.1 in
+    rw (p.1, p.2) (bad_table _ Line _ _ (c.in_err-scan.ensures Line _ (search rules) (search rules)) refl)
 
-pub returns-in-Bad-scan_links : goal.returns-in-Bad-scan_links
+pub returns-in_err-scan-2 : goal.returns-in_err-scan-2
 unfolding tables_of
-returns-in-Bad-scan_links c = bad_table _ _ _ _ c.scan_links.ensures c.in-Bad-scan_links.is
-    ∙ clean_table _ _ _ _ c.scan_lines.ensures c.in_default.is
+returns-in_err-scan-2 c =
+    let p = err_from_is_err_and c.from_residual-in_err-scan-2.result c.from_residual-in_err-scan-2.ensures.1 in
+    rw (p.1, p.2) (bad_table _ Link _ _ (c.in_err-scan-2.ensures Link _ (search rules) (search rules)) refl ∙ clean_table _ Line _ _ (c.in_ok-scan.ensures Line _ (search rules) (search rules)) refl)
 
-pub returns-in-Bad-scan_joins : goal.returns-in-Bad-scan_joins
+pub returns-in_err-scan-3 : goal.returns-in_err-scan-3
 unfolding tables_of
-returns-in-Bad-scan_joins c = bad_table _ _ _ _ c.scan_joins.ensures c.in-Bad-scan_joins.is
-    ∙ clean_table _ _ _ _ c.scan_links.ensures c.in_default-scan_links.is
-    ∙ clean_table _ _ _ _ c.scan_lines.ensures c.in_default.is
+returns-in_err-scan-3 c =
+    let p = err_from_is_err_and c.from_residual-in_err-scan-3.result c.from_residual-in_err-scan-3.ensures.1 in
+    rw (p.1, p.2) (bad_table _ Turn _ _ (c.in_err-scan-3.ensures Turn _ (search rules) (search rules)) refl ∙ clean_table _ Link _ _ (c.in_ok-scan-2.ensures Link _ (search rules) (search rules)) refl ∙ clean_table _ Line _ _ (c.in_ok-scan.ensures Line _ (search rules) (search rules)) refl)
 
-pub returns-in-Bad-scan_joins-2 : goal.returns-in-Bad-scan_joins-2
+pub returns-in_err-scan-4 : goal.returns-in_err-scan-4
 unfolding tables_of
-returns-in-Bad-scan_joins-2 c = bad_table _ _ _ _ c.scan_joins-2.ensures c.in-Bad-scan_joins-2.is
-    ∙ clean_table _ _ _ _ c.scan_joins.ensures c.in_default-scan_joins.is
-    ∙ clean_table _ _ _ _ c.scan_links.ensures c.in_default-scan_links.is
-    ∙ clean_table _ _ _ _ c.scan_lines.ensures c.in_default.is
+returns-in_err-scan-4 c =
+    let p = err_from_is_err_and c.from_residual-in_err-scan-4.result c.from_residual-in_err-scan-4.ensures.1 in
+    rw (p.1, p.2) (bad_table _ Pair _ _ (c.in_err-scan-4.ensures Pair _ (search rules) (search rules)) refl ∙ clean_table _ Turn _ _ (c.in_ok-scan-3.ensures Turn _ (search rules) (search rules)) refl ∙ clean_table _ Link _ _ (c.in_ok-scan-2.ensures Link _ (search rules) (search rules)) refl ∙ clean_table _ Line _ _ (c.in_ok-scan.ensures Line _ (search rules) (search rules)) refl)
 
 pub returns : goal.returns
 unfolding tables_of
-returns c = clean_table _ _ _ _ c.scan_joins-2.ensures c.in_default-scan_joins-2.is
-    ∙ clean_table _ _ _ _ c.scan_joins.ensures c.in_default-scan_joins.is
-    ∙ clean_table _ _ _ _ c.scan_links.ensures c.in_default-scan_links.is
-    ∙ clean_table _ _ _ _ c.scan_lines.ensures c.in_default.is
+returns c = clean_table _ Pair _ _ (c.in_ok-scan-4.ensures Pair _ (search rules) (search rules)) refl ∙ clean_table _ Turn _ _ (c.in_ok-scan-3.ensures Turn _ (search rules) (search rules)) refl ∙ clean_table _ Link _ _ (c.in_ok-scan-2.ensures Link _ (search rules) (search rules)) refl ∙ clean_table _ Line _ _ (c.in_ok-scan.ensures Line _ (search rules) (search rules)) refl

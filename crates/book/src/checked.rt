@@ -1,5 +1,5 @@
 // A checked book, carried together with its counts: the fields of an entry that lies within its table.
-ghost use Rattle.std.specs.Prelude.{◌≡◌, ◌<◌, Ok};
+ghost use Rattle.std.specs.Prelude.{◌≡◌, ◌≤◌, ◌<◌, Ok};
 ghost use Rattle.book.specs.Tables.{line_table, link_table, turn_table, pair_table};
 ghost use Rattle.book.specs.Entries.{line_headway, link_from, link_to, link_line, link_ride};
 ghost use Rattle.book.specs.Entries.{turn_first, turn_second, turn_walk, pair_first, pair_second, pair_extra};
@@ -76,7 +76,8 @@ impl<'a> CheckedBook<'a> {
 
     pub fn link_line(self, link: LinkNumber) -> u16
         requires { link.0 < self.counts.links }
-        ensures { result ≡ link_line (link_table self.entry.bytes.now self.entry.counts) link.0 }
+        ensures value { result ≡ link_line (link_table self.entry.bytes.now self.entry.counts) link.0 }
+        ensures exists { result < self.entry.counts.lines }
     {
         self.links().field(4, usize::from(link.0))
     }
@@ -90,14 +91,16 @@ impl<'a> CheckedBook<'a> {
 
     pub fn turn_first(self, turn: TurnNumber) -> LinkNumber
         requires { turn.0 < self.counts.turns }
-        ensures { result.0 ≡ turn_first (turn_table self.entry.bytes.now self.entry.counts) turn.0 }
+        ensures value { result.0 ≡ turn_first (turn_table self.entry.bytes.now self.entry.counts) turn.0 }
+        ensures exists { result.0 < self.entry.counts.links }
     {
         LinkNumber(self.turns().field(0, usize::from(turn.0)))
     }
 
     pub fn turn_second(self, turn: TurnNumber) -> LinkNumber
         requires { turn.0 < self.counts.turns }
-        ensures { result.0 ≡ turn_second (turn_table self.entry.bytes.now self.entry.counts) turn.0 }
+        ensures value { result.0 ≡ turn_second (turn_table self.entry.bytes.now self.entry.counts) turn.0 }
+        ensures exists { result.0 < self.entry.counts.links }
     {
         LinkNumber(self.turns().field(2, usize::from(turn.0)))
     }
@@ -132,14 +135,16 @@ impl<'a> CheckedBook<'a> {
 
     // The first turn whose first link is number n or a later one, or the count of turns.
     pub fn turns_from(self, n: usize) -> usize
-        ensures { result ≡ run_from (turn_table self.entry.bytes.now self.entry.counts) self.entry.counts.turns n }
+        ensures value { result ≡ run_from (turn_table self.entry.bytes.now self.entry.counts) self.entry.counts.turns n }
+        ensures within { result ≤ self.entry.counts.turns }
     {
         run_from(self.turns(), n)
     }
 
     // The first pair whose first turn is number n or a later one, or the count of pairs.
     pub fn pairs_from(self, n: usize) -> usize
-        ensures { result ≡ run_from (pair_table self.entry.bytes.now self.entry.counts) self.entry.counts.pairs n }
+        ensures value { result ≡ run_from (pair_table self.entry.bytes.now self.entry.counts) self.entry.counts.pairs n }
+        ensures within { result ≤ self.entry.counts.pairs }
     {
         run_from(self.pairs(), n)
     }

@@ -1,7 +1,8 @@
 // The day book: whether it is good, what its fields say, and the write of one turn's walk.
 #![tactic(auto)]
 
-ghost use Rattle.std.specs.Prelude.{◌≡◌, Ok, length};
+ghost use Rattle.std.specs.Prelude.{◌≡◌, ◌≤◌, Ok, length};
+ghost use Rattle.book.specs.Header.{most_links, most_turns, most_pairs, most_carry_over};
 ghost use Rattle.book.specs.Tables.{book_end};
 ghost use Rattle.book.specs.Check.{check_of};
 
@@ -78,4 +79,8 @@ pub struct CheckedBook<'a> {
     pub counts: Counts,
     ghost good: { check_of bytes.now ≡ Ok counts },
     ghost whole: { length bytes.now ≡ book_end counts },
+    ghost links_limited: { counts.links ≤ most_links },
+    ghost turns_limited: { counts.turns ≤ most_turns },
+    ghost pairs_limited: { counts.pairs ≤ most_pairs },
+    ghost carry_over_limited: { counts.carry_over ≤ most_carry_over },
 }

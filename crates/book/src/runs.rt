@@ -1,5 +1,5 @@
 // Where the run of a first number begins in the turn table or in the pair table. Both ascend, so it is found by halving.
-ghost use Rattle.std.specs.Prelude.{◌≡◌, true, ℕ, ◌<◌};
+ghost use Rattle.std.specs.Prelude.{◌≡◌, true, ℕ, ◌≤◌, ◌<◌};
 ghost use Rattle.book.specs.Entries.{ascends};
 ghost use Rattle.book.specs.Runs.{run_from};
 
@@ -8,7 +8,8 @@ use super::tables::{Entries, JOIN_BYTES};
 // The first entry whose first number is n or more, or the count.
 pub fn run_from(joins: Entries<'_, JOIN_BYTES>, n: usize) -> usize
     requires { (k : ℕ) → k < joins.count → ascends joins.bytes.now k ≡ true }
-    ensures { result ≡ run_from joins.entry.bytes.now joins.entry.count n }
+    ensures value { result ≡ run_from joins.entry.bytes.now joins.entry.count n }
+    ensures within { result ≤ joins.entry.count }
 {
     let mut low = 0;
     let mut high = joins.count;

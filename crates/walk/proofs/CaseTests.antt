@@ -8,8 +8,8 @@ use lib.Dec.{eqb}
 use lib.ListN.{length, get_or}
 use borrow.Author.Tests.{eqb-true, eq-eqb, not-true}
 use Rattle.book.specs.declared.Counts.{Counts}
-use Rattle.book.specs.declared.Checked.{Checked}
-use Rattle.book.specs.declared.Checked.TheVariants.{Good, Refused as BookRefused}
+use Rattle.book.specs.Check.{Checked}
+use Rattle.std.specs.Prelude.{Ok, Err}
 use Rattle.book.proofs.Limits.{both}
 use Rattle.walk.specs.View.{View, up_to}
 use Rattle.walk.specs.Labels.{Key, Entry, key_of, no_entry, TrueTurn, TrueLink, NodeWalk}
@@ -106,10 +106,10 @@ entry_same e = rw (eq-eqb e.cost e.cost refl, eq-eqb e.links e.links refl, eq-eq
 abbrev same_counts : Counts → Counts → Bool
 same_counts a b = eqb a.nodes b.nodes && (eqb a.lines b.lines && (eqb a.links b.links && (eqb a.turns b.turns && (eqb a.pairs b.pairs && eqb a.carry_over b.carry_over))))
 
--- the answer is Good with these counts
+-- the answer is Ok with these counts
 abbrev pub good_with : Checked → Counts → Bool
-good_with (BookRefused found) counts = false
-good_with (Good found) counts = same_counts found counts
+good_with (Err found) counts = false
+good_with (Ok found) counts = same_counts found counts
 
 same_counts_lem : (a b : Counts) → same_counts a b ≡ true → a ≡ b
 same_counts_lem a b h =
@@ -128,9 +128,9 @@ same_counts_lem a b h =
       carry_over = eqb-true a.carry_over b.carry_over carry i;
     }
 
-pub good_with_lem : (answer : Checked) (counts : Counts) → good_with answer counts ≡ true → answer ≡ Good counts
-good_with_lem (BookRefused found) counts h = clash (cc)
-good_with_lem (Good found) counts h = ap Good (same_counts_lem found counts h)
+pub good_with_lem : (answer : Checked) (counts : Counts) → good_with answer counts ≡ true → answer ≡ Ok counts
+good_with_lem (Err found) counts h = clash (cc)
+good_with_lem (Ok found) counts h = ap Ok (same_counts_lem found counts h)
 
 -- what a test tells apart, if everything passes it with itself
 pub told_apart : {A : Type 0} (same : A → A → Bool) → ((a : A) → same a a ≡ true) → (one other : A) → not (same one other) ≡ true → one ≡ other → ⊥

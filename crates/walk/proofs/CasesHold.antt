@@ -6,7 +6,7 @@ use mathlib.Core.Bool.{Bool, true, ◌&&◌}
 use lib.Dec.{ltb}
 use borrow.Author.Tests.{ltb-true}
 use Rattle.book.specs.declared.Counts.{Counts}
-use Rattle.book.specs.declared.Checked.TheVariants.{Good}
+use Rattle.std.specs.Prelude.{Ok}
 use Rattle.book.specs.Number.{number_at, with_number}
 use Rattle.book.specs.Header.{mark_good, version_good, counts_of, counts_good}
 use Rattle.book.specs.Entries.{line_good, link_good, seconds_good, ascends, join_good}
@@ -31,7 +31,7 @@ module _ (counts : Counts) where
   changes_good (e ∷ rest) = (ltb e.turn counts.turns && seconds_good e.walk) && changes_good rest
 
   -- a good book with allowed walks is a good book with its counts
-  pub changed_good : (book : List ℕ) (changes : List Change) → check_of book ≡ Good counts → changes_good changes ≡ true → check_of (with_changes book counts changes) ≡ Good counts
+  pub changed_good : (book : List ℕ) (changes : List Change) → check_of book ≡ Ok counts → changes_good changes ≡ true → check_of (with_changes book counts changes) ≡ Ok counts
   changed_good book [] good h = good
   changed_good book (e ∷ rest) good h =
       let (here, later) = both (ltb e.turn counts.turns && seconds_good e.walk) (changes_good rest) h in

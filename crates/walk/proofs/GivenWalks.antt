@@ -7,21 +7,21 @@ use native.Mathlib.Omega.{arith}
 use native.Mathlib.Numerals.{add-one}
 use lib.ListN.{length, get_or, take, drop, take-append-drop}
 use lib.Seq.{take-suc, take_all}
-use borrow.Author.Tests.{lt-ltb, eq-eqb, ne_eqb, ltb-true, eqb-true}
+use borrow.Author.Tests.{lt-ltb, eq-eqb, ltb-true, eqb-true}
 use Rattle.book.specs.declared.Counts.{Counts}
-use Rattle.book.specs.declared.Checked.TheVariants.{Good}
+use Rattle.std.specs.Prelude.{Option, Some, None, Ok, Err, IfSome}
+use Rattle.book.specs.declared.TurnNumber.{TurnNumber}
 use Rattle.book.specs.Check.{check_of}
 use Rattle.book.proofs.Limits.{both}
 use Rattle.walk.specs.declared.Split.{Split}
-use Rattle.walk.specs.declared.Costed.TheVariants.{NotPermitted, Permitted}
-use Rattle.walk.specs.declared.onward.Advanced.{Advanced}
-use Rattle.walk.specs.declared.onward.Advanced.TheVariants.{Stopped, Onward}
-use Rattle.walk.specs.View.{View, view_with, view_of, walks_of}
+use Rattle.walk.specs.declared.NoCost.TheVariants.{NotPermitted}
+use Rattle.walk.specs.declared.Added.{Added}
+use Rattle.walk.specs.Given.{permitted_at}
+use Rattle.walk.specs.View.{View, view_with, walks_of}
 use Rattle.walk.specs.Walks.{turn_of, permitted, cost_of, split_of, total}
 use Rattle.walk.specs.steps.Splits.{no_split, link_split, together}
-use Rattle.walk.specs.Labels.{start_back}
 use Rattle.walk.specs.steps.Backwards.{turns_back, permitted_back, split_back, step_permitted, step_split}
-use Rattle.walk.specs.steps.Onward.{turn_before, advanced, one_more, walk_answer}
+use Rattle.walk.specs.steps.Onward.{numbered, turns_so_far, advanced, one_more, walk_answer}
 use Rattle.walk.proofs.theory.Laws.{refuted}
 use Rattle.walk.proofs.Backwards.{permitted_reverse, split_reverse}
 use Rattle.walk.proofs.GoodView.{turn_links}
@@ -36,21 +36,21 @@ last_turn [] = []
 last_turn (p ∷ rest) = p ∷ []
 
 -- after k of the links: the last of them, the turn before, and the four figures
-pub record Along (U : View) (r : ℕ) (links : List ℕ) (last before : ℕ) (split : Split) (k : ℕ) : Type 0 where
+pub record Along (U : View) (r : ℕ) (links : List ℕ) (last : ℕ) (before : Option TurnNumber) (split : Split) (k : ℕ) : Type 0 where
   pub earlier : List ℕ
   pub so_far : reverse (take k links) ≡ last ∷ earlier
   pub goes : permitted_back U r (last ∷ earlier) ≡ true
   pub figures : split ≡ split_back U (last ∷ earlier)
-  pub turn : turn_before before ≡ last_turn (turns_back U (last ∷ earlier))
-  pub listed : (before ≡ start_back → ⊥) → before < U.turns
+  pub turn : turns_so_far before ≡ last_turn (turns_back U (last ∷ earlier))
+  pub listed : IfSome before (λ p. p.0 < U.turns)
   pub within : k ≤ length links
   pub limit : total split ≤ 46800 * k
 
-onward_says : (goes : Bool) (t : ℕ) (s : Split) (turn : ℕ) (more : Split) → advanced goes t s ≡ Onward turn more → (goes ≡ true) × (turn ≡ t) × (more ≡ s)
-onward_says true t s turn more e = (refl, cc, cc)
-onward_says false t s turn more e = (cc, cc, cc)
+onward_says : (goes : Bool) (t : ℕ) (s : Split) {added : Added} → advanced goes t s ≡ Some added → (goes ≡ true) × (added.turn ≡ numbered t) × (added.split ≡ s)
+onward_says true t s e = (refl, cc, cc)
+onward_says false t s e = (cc, cc, cc)
 
-stopped_says : (goes : Bool) (t : ℕ) (s : Split) → advanced goes t s ≡ Stopped → goes ≡ false
+stopped_says : (goes : Bool) (t : ℕ) (s : Split) → advanced goes t s ≡ None → goes ≡ false
 stopped_says true t s e = cc
 stopped_says false t s e = refl
 
@@ -86,32 +86,31 @@ module _ (U : View) where
         let whole : reverse links ≡ reverse (drop k links) ++ (a ∷ earlier) = ap reverse (sym (take-append-drop k links)) ∙ reverse-append (take k links) (drop k links) ∙ ap (λ (l : List ℕ). reverse (drop k links) ++ l) e in
         up_to (reverse (drop k links)) a earlier (ap (permitted_back U r) (sym whole) ∙ sym (permitted_back_lem links) ∙ h)
 
-    pub no_links : (links : List ℕ) → length links ≡ 0 → Permitted 0 no_split ≡ walk_answer U r links
+    pub no_links : (links : List ℕ) → length links ≡ 0 → permitted_at 0 no_split ≡ walk_answer U r links
     unfolding walk_answer permitted cost_of
     no_links [] e = refl
     no_links (l ∷ rest) e = absurd (omega arith)
 
-    not_permitted : (links : List ℕ) → (permitted U r links ≡ true → ⊥) → NotPermitted ≡ walk_answer U r links
+    not_permitted : (links : List ℕ) → (permitted U r links ≡ true → ⊥) → Err NotPermitted ≡ walk_answer U r links
     unfolding walk_answer
     not_permitted links h = rw (refuted (permitted U r links) h)
 
     -- the first link does not exist or leaves another node
-    pub no_start : (links : List ℕ) → 0 < length links → ((get_or links 0 0 < U.links) × (U.from (get_or links 0 0) ≡ r) → ⊥) → NotPermitted ≡ walk_answer U r links
+    pub no_start : (links : List ℕ) → 0 < length links → ((get_or links 0 0 < U.links) × (U.from (get_or links 0 0) ≡ r) → ⊥) → Err NotPermitted ≡ walk_answer U r links
     no_start links h n =
         not_permitted links (λ p.
         let (exists, leaves) = both _ _ (sym (permitted_one U r (get_or links 0 0)) ∙ permitted_so_far links 1 (get_or links 0 0) [] (one_more_link links 0 h) p) in
         n (ltb-true _ _ exists, eqb-true _ _ leaves))
 
 -- the walk of a checked book with its own walks
-module _ (book : List ℕ) (counts : Counts) (walks : List ℕ) (checked : check_of book ≡ Good counts) (own : walks ≡ walks_of book counts) (links : List ℕ) where
+module _ (book : List ℕ) (counts : Counts) (walks : List ℕ) (checked : check_of book ≡ Ok counts) (own : walks ≡ walks_of book counts) (links : List ℕ) where
   abbrev U : View
   U = view_with book counts walks
 
   limited : Limited U
   limited = subst (λ (seen : List ℕ). Limited (view_with book counts seen)) (sym own) (limited_view book counts checked)
 
-  pub set_out : (split : Split) → 0 < length links → get_or links 0 0 < counts.links → split ≡ link_split U (get_or links 0 0) → Along U (U.from (get_or links 0 0)) links (get_or links 0 0) start_back split 1
-  unfolding turn_before
+  pub set_out : (split : Split) → 0 < length links → get_or links 0 0 < counts.links → split ≡ link_split U (get_or links 0 0) → Along U (U.from (get_or links 0 0)) links (get_or links 0 0) None split 1
   set_out split h l e =
       record {
         earlier = [];
@@ -119,72 +118,61 @@ module _ (book : List ℕ) (counts : Counts) (walks : List ℕ) (checked : check
         goes = permitted_one U (U.from (get_or links 0 0)) (get_or links 0 0) ∙ and_true (lt-ltb _ _ l) (eq-eqb (U.from (get_or links 0 0)) (U.from (get_or links 0 0)) refl);
         figures = e ∙ sym (split_one U (U.from (get_or links 0 0)) (get_or links 0 0));
         turn = refl;
-        listed = λ n. absurd (n refl);
+        listed = tt;
         within = omega arith;
         limit = omega (arith, ap total e, limited.link (get_or links 0 0) l);
       }
 
-  as_list : (turn : ℕ) → turn < counts.turns → turn_before turn ≡ turn ∷ []
-  unfolding turn_before
-  as_list turn h = rw (ne_eqb turn start_back (λ e. omega (arith, limited.turns)))
-
-  module _ (r : ℕ) {last before : ℕ} {split : Split} {k : ℕ} (along : Along U r links last before split k) where
-    its_own : walk_answer U r links ≡ walk_answer (view_of book counts) r links
-    its_own = ap (λ (seen : List ℕ). walk_answer (view_with book counts seen) r links) own
-
-    reached : length links ≤ k → Permitted (total split) split ≡ walk_answer U r links
+  module _ (r : ℕ) {last : ℕ} {before : Option TurnNumber} {split : Split} {k : ℕ} (along : Along U r links last before split k) where
+    pub arrived : length links ≤ k → permitted_at (total split) split ≡ walk_answer U r links
     unfolding walk_answer cost_of
-    reached h =
+    arrived h =
         let e : reverse links ≡ last ∷ along.earlier = ap reverse (sym (take_all k links h)) ∙ along.so_far in
         let p : permitted U r links ≡ true = permitted_back_lem U r links ∙ ap (permitted_back U r) e ∙ along.goes in
         let s : split_of U links ≡ split = split_back_lem U r links ∙ ap (split_back U) e ∙ sym along.figures in
-        rw p (ap (λ (own : Split). Permitted (total own) own) (sym s))
+        rw p (ap (λ (own : Split). permitted_at (total own) own) (sym s))
 
-    pub arrived : length links ≤ k → Permitted (total split) split ≡ walk_answer (view_of book counts) r links
-    arrived h = reached h ∙ its_own
-
-    module _ (h : k < length links) {b : ℕ} (link : b ≡ get_or links k 0) {result : Advanced} (found : result ≡ one_more U before last b) where
+    module _ (h : k < length links) {b : ℕ} (link : b ≡ get_or links k 0) {result : Option Added} (found : result ≡ one_more U before last b) where
       grown : reverse (take (k + 1) links) ≡ b ∷ last ∷ along.earlier
       grown = one_more_link links k h ∙ rw (← link, along.so_far)
 
       abbrev turns : List ℕ
       turns = turns_back U (last ∷ along.earlier)
 
-      goes_as : step_permitted U b last turns ≡ step_permitted U b last (turn_before before)
+      goes_as : step_permitted U b last turns ≡ step_permitted U b last (turns_so_far before)
       goes_as = step_last U b last turns ∙ ap (step_permitted U b last) (sym along.turn)
 
-      adds_as : step_split U b last turns ≡ step_split U b last (turn_before before)
+      adds_as : step_split U b last turns ≡ step_split U b last (turns_so_far before)
       adds_as = step_split_last U b last turns ∙ ap (step_split U b last) (sym along.turn)
 
-      pub barred_on : result ≡ Stopped → NotPermitted ≡ walk_answer (view_of book counts) r links
+      pub barred_on : result ≡ None → Err NotPermitted ≡ walk_answer U r links
       unfolding one_more
       barred_on e =
           not_permitted U r links (λ p.
-          let stops : step_permitted U b last (turn_before before) ≡ false = stopped_says _ _ _ (sym found ∙ e) in
+          let stops : step_permitted U b last (turns_so_far before) ≡ false = stopped_says _ _ _ (sym found ∙ e) in
           let goes : step_permitted U b last turns ≡ true = (both (permitted_back U r (last ∷ along.earlier)) (step_permitted U b last turns) (sym (permitted_more U r b last along.earlier) ∙ permitted_so_far U r links (k + 1) b (last ∷ along.earlier) grown p)).1 in
           let z : ◌≡◌ {A = ℕ} 0 1 = cc (goes_as) in
           omega arith)
-          ∙ its_own
 
-      pub goes_on : {turn : ℕ} {more : Split} → result ≡ Onward turn more → (total more ≤ 46800) × Along U r links b turn (together split more) (k + 1)
+      pub goes_on : {added : Added} → result ≡ Some added → (total added.split ≤ 46800) × Along U r links b (Some added.turn) (together split added.split) (k + 1)
       unfolding one_more
-      goes_on {turn} {more} e =
-          let (goes, which, adds) = onward_says _ _ _ turn more (sym found ∙ e) in
+      goes_on {added} e =
+          let (goes, which, adds) = onward_says _ _ _ (sym found ∙ e) in
           let step : step_permitted U b last turns ≡ true = goes_as ∙ goes in
-          let added : more ≡ step_split U b last turns = adds ∙ sym adds_as in
-          let limit : total more ≤ 46800 = omega (arith, ap total adds, step_limit U limited before along.listed b last goes) in
+          let adds-up : added.split ≡ step_split U b last turns = adds ∙ sym adds_as in
+          let limit : total added.split ≤ 46800 = omega (arith, ap total adds, step_limit U limited before along.listed b last goes) in
           let tested = step_tests U r b last turns step in
           let listed : turn_of U last b < counts.turns = ltb-true _ _ tested.listed in
-          let known : turn < counts.turns = omega (arith, which) in (
+          let known : added.turn.0 < counts.turns = rw which listed in (
             limit,
             record {
               earlier = last ∷ along.earlier;
               so_far = grown;
               goes = permitted_more U r b last along.earlier ∙ and_true along.goes step;
-              figures = rw (along.figures, added) (sym (split_more U r b last along.earlier (turn_links U last b listed).1));
-              turn = as_list turn known ∙ ap (λ (t : ℕ). t ∷ []) which;
-              listed = λ n. known;
+              figures = rw (along.figures, adds-up) (sym (split_more U r b last along.earlier (turn_links U last b listed).1));
+              turn = ap (λ (t : TurnNumber). t.0 ∷ []) which;
+              listed = known;
               within = omega arith;
-              limit = omega (arith, along.limit, total_together split more);
+              limit = omega (arith, along.limit, total_together split added.split);
             },
           )

@@ -11,7 +11,7 @@ use Rattle.book.proofs.FirstBad.{First, first_bad_lem}
 use Rattle.book.proofs.Limits.{both}
 use mathlib.Core.List.{List}
 use Rattle.book.specs.declared.Counts.{Counts}
-use Rattle.book.specs.declared.Checked.TheVariants.{Good}
+use Rattle.std.specs.Prelude.{Ok}
 use Rattle.book.specs.Tables.{link_table}
 use Rattle.book.specs.Entries.{link_line}
 use Rattle.book.specs.Check.{check_of}
@@ -71,7 +71,7 @@ module _ (U : View) where
           same_turn U good (turn_of U (U.first t) (U.second t)) t l h f g
 
 -- the view of a checked book is good, whatever the walks
-pub good_view : (book : List ℕ) (counts : Counts) (walks : List ℕ) → check_of book ≡ Good counts → GoodView (view_with book counts walks)
+pub good_view : (book : List ℕ) (counts : Counts) (walks : List ℕ) → check_of book ≡ Ok counts → GoodView (view_with book counts walks)
 good_view book counts walks h =
     let g = good_book book counts h in
     record {
@@ -83,7 +83,7 @@ good_view book counts walks h =
     }
 
 -- a link of a checked book costs at most 39,600
-pub link_limit : (book : List ℕ) (counts : Counts) (walks : List ℕ) → check_of book ≡ Good counts → (l : ℕ) → l < counts.links → link_cost (view_with book counts walks) l ≤ 39600
+pub link_limit : (book : List ℕ) (counts : Counts) (walks : List ℕ) → check_of book ≡ Ok counts → (l : ℕ) → l < counts.links → link_cost (view_with book counts walks) l ≤ 39600
 link_limit book counts walks h l within =
     let g = good_book book counts h in
     let link = g.link l within in
@@ -94,7 +94,7 @@ paid_most true wait = omega arith
 paid_most false wait = omega arith
 
 -- and so do the ride and the wait of a turn's second link
-module _ (book : List ℕ) (counts : Counts) (walks : List ℕ) (h : check_of book ≡ Good counts) (t : ℕ) (within : t < counts.turns) where
+module _ (book : List ℕ) (counts : Counts) (walks : List ℕ) (h : check_of book ≡ Ok counts) (t : ℕ) (within : t < counts.turns) where
   abbrev U : View
   U = view_with book counts walks
 

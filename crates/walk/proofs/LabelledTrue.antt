@@ -5,7 +5,7 @@ use mathlib.Core.List.{List, [], ◌∷◌, map}
 use mathlib.Core.Bool.{true}
 use native.Mathlib.Omega.{arith}
 use lib.ListN.{length, get_or}
-use Rattle.book.specs.declared.Checked.TheVariants.{Good}
+use Rattle.std.specs.Prelude.{Ok}
 use Rattle.book.specs.Number.{number_at, with_number}
 use Rattle.book.specs.Check.{check_of}
 use Rattle.book.specs.Entries.{seconds_good}
@@ -48,7 +48,7 @@ view_in labelled = view_of labelled.book counts_a
 abbrev claims_in : Labelled → List Claim
 claims_in labelled = turns_are labelled.turns ∷ links_are labelled.links ∷ []
 
-labels_true : (labelled : Labelled) → check_of labelled.book ≡ Good counts_a → settled (view_in labelled) ≡ true → all_pass (view_in labelled) (view_in labelled) (claims_in labelled) ≡ true
+labels_true : (labelled : Labelled) → check_of labelled.book ≡ Ok counts_a → settled (view_in labelled) ≡ true → all_pass (view_in labelled) (view_in labelled) (claims_in labelled) ≡ true
     → TrueLabels (view_in labelled) 0 (as_table labelled.turns) (as_table labelled.links)
 labels_true labelled checked steady pass =
     let good = good_view labelled.book counts_a (walks_of labelled.book counts_a) checked in
@@ -59,13 +59,13 @@ pub given_true : TrueLabels (view_in given) 0 (as_table given.turns) (as_table g
 given_true = record { turn = table_true _ _ turn_entries_a cases_hold.0.1.0; link = table_true _ _ link_entries_a cases_hold.1.0.1.0 }
 
 -- P5 is the fifth case, P6 the sixth
-pub shut_good : check_of shut.book ≡ Good counts_a
+pub shut_good : check_of shut.book ≡ Ok counts_a
 shut_good = cases_hold.1.1.1.1.0.0
 
-pub cut_off_good : check_of cut_off.book ≡ Good counts_a
+pub cut_off_good : check_of cut_off.book ≡ Ok counts_a
 cut_off_good = cases_hold.1.1.1.1.1.0.0
 
-pub by_the_last_good : check_of by_the_last.book ≡ Good counts_a
+pub by_the_last_good : check_of by_the_last.book ≡ Ok counts_a
 unfolding seconds_good
 by_the_last_good = changed_good counts_a book_a (closed 0 ∷ []) book_a_good refl
 

@@ -9,7 +9,7 @@ use lib.Dec.{ltb, eqb}
 use lib.ListN.{get_or}
 use borrow.Author.Tests.{eqb-false, not-true}
 use Rattle.book.specs.declared.Counts.{Counts}
-use Rattle.book.specs.declared.Checked.TheVariants.{Good}
+use Rattle.std.specs.Prelude.{Ok}
 use Rattle.book.specs.Tables.{turn_table, pair_table}
 use Rattle.book.specs.Entries.{barred, turn_walk, pair_first, pair_second, pair_extra}
 use Rattle.book.specs.Check.{check_of}
@@ -35,7 +35,7 @@ listed_from table (suc k) p t extra h = by (eqb (pair_first table k) p && eqb (p
         let (j, l, same) = earlier e in
         (j, omega arith, same)
 
-module _ (book : List ℕ) (counts : Counts) (h : check_of book ≡ Good counts) where
+module _ (book : List ℕ) (counts : Counts) (h : check_of book ≡ Ok counts) where
   g : GoodBook book counts
   g = good_book book counts h
 

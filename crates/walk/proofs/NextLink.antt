@@ -2,31 +2,39 @@
 use Prim.Native.Nat.{ℕ, ◌≤◌, ◌<◌}
 use mathlib.Core.Path.{◌≡◌, refl, sym, ◌∙◌}
 use mathlib.Core.List.{List, [], ◌∷◌}
-use mathlib.Core.Bool.{Bool, true, false, not}
+use mathlib.Core.Bool.{Bool, true, false}
 use native.Mathlib.Omega.{arith}
 use lib.Dec.{ltb}
-use borrow.Author.Tests.{lt-ltb, le-ltb, eq-eqb, not-true, not-false}
+use borrow.Author.Tests.{lt-ltb, le-ltb, eq-eqb, ltb-true, ltb-false}
 use Rattle.book.specs.declared.Counts.{Counts}
-use Rattle.book.specs.declared.Checked.TheVariants.{Good}
+use Rattle.std.specs.Prelude.{Option, Some, None, Ok}
+use Rattle.book.specs.declared.TurnNumber.{TurnNumber}
 use Rattle.book.specs.Check.{check_of}
 use Rattle.walk.specs.declared.Between.{Between}
 use Rattle.walk.specs.declared.Split.{Split}
-use Rattle.walk.specs.declared.onward.Advanced.TheVariants.{Stopped, Onward}
-use Rattle.walk.specs.View.{View, view_with, view_of, walks_of}
+use Rattle.walk.specs.View.{View, view_with}
 use Rattle.walk.specs.Walks.{turn_of, allowed, seconds}
 use Rattle.walk.specs.steps.Splits.{turn_split}
 use Rattle.walk.specs.steps.Backwards.{may_come, extra_after, step_permitted, step_split}
 use Rattle.walk.specs.steps.Pairs.{may_step}
-use Rattle.walk.specs.steps.Onward.{turn_before, stands_after, advanced, one_more}
+use Rattle.walk.specs.steps.Onward.{numbered, some_if, turn_found, turns_so_far, stands_after, advanced, one_more}
 use Rattle.walk.proofs.GoodView.{GoodView, good_view, turn_links}
 use Rattle.walk.proofs.Growth.{step_tests}
-use Rattle.walk.proofs.TurnRuns.{same_turn_of}
 
-stopped : (goes : Bool) (turn : ℕ) (more : Split) → goes ≡ false → Stopped ≡ advanced goes turn more
+stopped : (goes : Bool) (turn : ℕ) (more : Split) → goes ≡ false → None ≡ advanced goes turn more
 stopped goes turn more e = rw e
 
-onward : (goes : Bool) (turn : ℕ) (more : Split) → goes ≡ true → Onward turn more ≡ advanced goes turn more
+onward : (goes : Bool) (turn : ℕ) (more : Split) → goes ≡ true → Some (record { turn = numbered turn; split = more }) ≡ advanced goes turn more
 onward goes turn more e = rw e
+
+-- what the search for a turn found
+found_some : (listed : Bool) (turn : ℕ) {t : TurnNumber} → Some t ≡ some_if listed turn → (listed ≡ true) × (t.0 ≡ turn)
+found_some true turn e = (refl, cc)
+found_some false turn e = (cc, cc)
+
+found_none : (listed : Bool) (turn : ℕ) → None ≡ some_if listed turn → listed ≡ false
+found_none true turn e = cc
+found_none false turn e = refl
 
 module _ (U : View) where
   may_come_lem : (t : ℕ) (turns : List ℕ) → may_come U t turns ≡ allowed (stands_after U t turns)
@@ -57,35 +65,38 @@ module _ (U : View) where
         by false e = e
 
 -- what the code finds of one more link
-module _ (book : List ℕ) (counts : Counts) (walks : List ℕ) (checked : check_of book ≡ Good counts) (before a b : ℕ) {t : ℕ} (found : t ≡ turn_of (view_of book counts) a b) where
+module _ (book : List ℕ) (counts : Counts) (walks : List ℕ) (checked : check_of book ≡ Ok counts) (before : Option TurnNumber) (a b : ℕ) where
   abbrev U : View
   U = view_with book counts walks
 
   good : GoodView U
   good = good_view book counts walks checked
 
-  turn : t ≡ turn_of U a b
-  turn = found ∙ same_turn_of book counts (walks_of book counts) walks a b
-
-  pub missing_stops : counts.turns ≤ t → Stopped ≡ one_more U before a b
+  pub missing_stops : None ≡ turn_found U a b → None ≡ one_more U before a b
   unfolding one_more
-  missing_stops h = rw (no_turn U good a b (turn_before before) (omega (arith, turn)))
+  missing_stops found = rw (no_turn U good a b (turns_so_far before) (ltb-false _ _ (found_none _ _ found)))
 
-  module _ (within : t < counts.turns) {goes : Bool} {stands : Between} (stood : stands ≡ stands_after U t (turn_before before)) (stepping : goes ≡ may_step U stands t) where
-    as_permitted : goes ≡ step_permitted U b a (turn_before before)
-    as_permitted =
-        let listed : turn_of U a b < counts.turns = omega (arith, turn) in
-        stepping ∙ rw (stood, turn) (step_goes U good a b (turn_before before) listed)
+  pub found_within : {t : TurnNumber} → Some t ≡ turn_found U a b → t.0 < counts.turns
+  found_within found =
+      let (listed, same) = found_some _ _ found in
+      omega (arith, ltb-true _ _ listed)
 
-    pub barred_stops : not goes ≡ true → Stopped ≡ one_more U before a b
+  module _ {t : TurnNumber} (found : Some t ≡ turn_found U a b) {goes : Bool} {stands : Between} (stood : stands ≡ stands_after U t.0 (turns_so_far before)) (stepping : goes ≡ may_step U stands t.0) where
+    turn : t.0 ≡ turn_of U a b
+    turn = (found_some _ _ found).1
+
+    as_permitted : goes ≡ step_permitted U b a (turns_so_far before)
+    as_permitted = stepping ∙ rw (stood, turn) (step_goes U good a b (turns_so_far before) (ltb-true _ _ (found_some _ _ found).0))
+
+    pub barred_stops : goes ≡ false → None ≡ one_more U before a b
     unfolding one_more
-    barred_stops e = stopped (step_permitted U b a (turn_before before)) _ _ (sym as_permitted ∙ not-true goes e)
+    barred_stops e = stopped (step_permitted U b a (turns_so_far before)) _ _ (sym as_permitted ∙ e)
 
     -- what the turn adds, by what stands before it
-    as_split : turn_split U (seconds stands) t ≡ step_split U b a (turn_before before)
+    as_split : turn_split U (seconds stands) t.0 ≡ step_split U b a (turns_so_far before)
     unfolding step_split
-    as_split = rw (stood, turn, extra_comes U (turn_of U a b) (turn_before before))
+    as_split = rw (stood, turn, extra_comes U (turn_of U a b) (turns_so_far before))
 
-    pub goes_onward : {more : Split} → not goes ≡ false → more ≡ turn_split U (seconds stands) t → Onward t more ≡ one_more U before a b
+    pub goes_onward : {more : Split} → goes ≡ true → more ≡ turn_split U (seconds stands) t.0 → Some (record { turn = t; split = more }) ≡ one_more U before a b
     unfolding one_more
-    goes_onward e m = rw (m, as_split, turn) (onward (step_permitted U b a (turn_before before)) _ _ (sym as_permitted ∙ not-false goes e))
+    goes_onward e m = rw (m, as_split, turn) (onward (step_permitted U b a (turns_so_far before)) _ _ (sym as_permitted ∙ e))

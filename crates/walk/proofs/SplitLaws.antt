@@ -8,15 +8,16 @@ use lib.ListN.{length, length-append}
 use lib.Dec.{ltb, leb}
 use borrow.Author.Tests.{lt-leb, le-ltb}
 use Rattle.book.specs.declared.Counts.{Counts}
-use Rattle.book.specs.declared.Checked.{Checked}
-use Rattle.book.specs.declared.Checked.TheVariants.{Good, Refused}
-use Rattle.book.specs.Check.{check_of, refusal}
+use Rattle.std.specs.Prelude.{Ok, Err}
+use Rattle.book.specs.Check.{Checked, check_of}
 use Rattle.walk.specs.declared.Split.{Split}
-use Rattle.walk.specs.declared.Costed.TheVariants.{Refused as CostRefused, TooLong, NotPermitted, Permitted}
+use Rattle.book.specs.declared.Refusal.TheVariants.{NoNode}
+use Rattle.walk.specs.declared.NoCost.TheVariants.{Refused, TooLong, NotPermitted}
 use Rattle.walk.specs.View.{View, view_of}
 use Rattle.walk.specs.Walks.{permitted, cost_of, split_of, total}
 use Rattle.walk.specs.Labels.{Key, Entry, start_back, Chosen, LinkWalk, NodeWalk, stays, enters, chosen, TrueLink, link_back, Route, Table, entry_at, TrueTable}
-use Rattle.walk.specs.Given.{most_links_given, or_else, cost_answer, cost_of_walk}
+use Rattle.walk.specs.Given.{Answer, permitted_at, most_links_given, or_else, cost_answer, cost_of_walk}
+use Rattle.walk.specs.steps.Splits.{split_in}
 use Rattle.walk.specs.steps.ViewNet.{net}
 use Rattle.walk.proofs.theory.Laws.{clash}
 use Rattle.walk.proofs.theory.Walks.{link_head}
@@ -30,28 +31,32 @@ unfolding cost_of
 adds_up U links = refl
 
 -- a permitted walk of a checked book is answered by its cost and its four figures
-pub given_costed : (book : List ℕ) (r : ℕ) (links : List ℕ) (counts : Counts) → check_of book ≡ Good counts → r < counts.nodes → length links ≤ most_links_given → permitted (view_of book counts) r links ≡ true
-    → cost_of_walk book r links ≡ Permitted (cost_of (view_of book counts) links) (split_of (view_of book counts) links)
+pub given_costed : (book : List ℕ) (r : ℕ) (links : List ℕ) (counts : Counts) → check_of book ≡ Ok counts → r < counts.nodes → length links ≤ most_links_given → permitted (view_of book counts) r links ≡ true
+    → cost_of_walk book r links ≡ permitted_at (cost_of (view_of book counts) links) (split_of (view_of book counts) links)
 unfolding cost_answer
 given_costed book r links counts checked node few goes = rw (checked, lt-leb _ _ node, le-ltb _ _ few, goes)
 
+abbrev cost_in : Answer → ℕ
+cost_in (Ok costed) = costed.cost
+cost_in (Err none) = 0
+
 -- whatever the book, the origin and the links
-pub answer_adds_up : (book : List ℕ) (r : ℕ) (links : List ℕ) (cost : ℕ) (split : Split) → Permitted cost split ≡ cost_of_walk book r links → total split ≡ cost
+pub answer_adds_up : (book : List ℕ) (r : ℕ) (links : List ℕ) (cost : ℕ) (split : Split) → permitted_at cost split ≡ cost_of_walk book r links → total split ≡ cost
 unfolding cost_answer
 answer_adds_up book r links cost split = by (check_of book)
   where
-    told : (U : View) (none long goes : Bool) → Permitted cost split ≡ or_else none (CostRefused (refusal 10 0)) (or_else long TooLong (or_else goes (Permitted (cost_of U links) (split_of U links)) NotPermitted)) → total split ≡ cost
+    told : (U : View) (none long goes : Bool) → permitted_at cost split ≡ or_else none (Err (Refused NoNode)) (or_else long (Err TooLong) (or_else goes (permitted_at (cost_of U links) (split_of U links)) (Err NotPermitted))) → total split ≡ cost
     told U true long goes e = clash (cc)
     told U false true goes e = clash (cc)
     told U false false false e = clash (cc)
     told U false false true e =
-        let cost_same : cost ≡ cost_of U links = cc in
-        let split-same : split ≡ split_of U links = cc in
+        let cost_same : cost ≡ cost_of U links = ap cost_in e in
+        let split-same : split ≡ split_of U links = ap split_in e in
         ap total split-same ∙ adds_up U links ∙ sym cost_same
 
-    by : (checked : Checked) → Permitted cost split ≡ cost_answer checked book r links → total split ≡ cost
-    by (Refused found) e = clash (cc)
-    by (Good counts) e = told (view_of book counts) (leb counts.nodes r) (ltb most_links_given (length links)) (permitted (view_of book counts) r links) e
+    by : (checked : Checked) → permitted_at cost split ≡ cost_answer checked book r links → total split ≡ cost
+    by (Err found) e = clash (cc)
+    by (Ok counts) e = told (view_of book counts) (leb counts.nodes r) (ltb most_links_given (length links)) (permitted (view_of book counts) r links) e
 
 module _ (U : View) (good : GoodView U) (few : U.turns < start_back) (r : ℕ) where
   -- the label of a link is the sum of its chosen walk's figures

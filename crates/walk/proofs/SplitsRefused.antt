@@ -13,11 +13,10 @@ use Rattle.book.specs.Check.{tables_of, check_of}
 use Rattle.book.specs.BookA.{book_a}
 use Rattle.book.proofs.Limits.{both}
 use Rattle.walk.specs.declared.Split.{Split}
-use Rattle.walk.specs.declared.Costed.{Costed}
-use Rattle.walk.specs.declared.Costed.TheVariants.{Refused, TooLong, NotPermitted, Permitted}
+use Rattle.std.specs.Prelude.{Ok, Err}
 use Rattle.walk.specs.View.{listed_in, up_to}
 use Rattle.walk.specs.Walks.{turn_of, look_up, permitted, cost_of, figures_of}
-use Rattle.walk.specs.Given.{cost_answer, cost_of_walk}
+use Rattle.walk.specs.Given.{Answer, permitted_at, cost_answer, cost_of_walk}
 use Rattle.walk.specs.Cases.{All}
 use Rattle.walk.specs.RefusedSplits.{split, Parted, loop_a, wrong_splits, SplitsInto, SplitRefused}
 use Rattle.walk.proofs.theory.Laws.{clash}
@@ -26,27 +25,21 @@ use Rattle.walk.proofs.EveryRow.{every_row}
 use Rattle.walk.proofs.CaseTests.{differ}
 use Rattle.walk.proofs.LabelledTrue.{right_alone}
 
-abbrev splits_as : Costed → Split → Bool
-splits_as (Refused found) right = false
-splits_as TooLong right = false
-splits_as NotPermitted right = false
-splits_as (Permitted cost found) right = eqb found.ride right.ride && (eqb found.wait right.wait && (eqb found.walk right.walk && eqb found.extra right.extra))
+abbrev splits_as : Answer → Split → Bool
+splits_as (Err none) right = false
+splits_as (Ok found) right = eqb found.split.ride right.ride && (eqb found.split.wait right.wait && (eqb found.split.walk right.walk && eqb found.split.extra right.extra))
 
-splits_as_lem : (answer : Costed) (right : Split) → splits_as answer right ≡ true → (cost : ℕ) × (answer ≡ Permitted cost right)
-splits_as_lem (Refused found) right h = clash (cc)
-splits_as_lem TooLong right h = clash (cc)
-splits_as_lem NotPermitted right h = clash (cc)
-splits_as_lem (Permitted cost found) right h =
+splits_as_lem : (answer : Answer) (right : Split) → splits_as answer right ≡ true → (cost : ℕ) × (answer ≡ permitted_at cost right)
+splits_as_lem (Err none) right h = clash (cc)
+splits_as_lem (Ok found) right h =
     let (rides, rest) = both _ _ h in
     let (waits, rest) = both _ _ rest in
     let (walks, extras) = both _ _ rest in
-    (cost, ap (Permitted cost) (same_split (eqb-true _ _ rides) (eqb-true _ _ waits) (eqb-true _ _ walks) (eqb-true _ _ extras)))
+    (found.cost, ap (permitted_at found.cost) (same_split (eqb-true _ _ rides) (eqb-true _ _ waits) (eqb-true _ _ walks) (eqb-true _ _ extras)))
 
-abbrev figures_in : Costed → List ℕ
-figures_in (Refused found) = []
-figures_in TooLong = []
-figures_in NotPermitted = []
-figures_in (Permitted cost found) = figures_of found
+abbrev figures_in : Answer → List ℕ
+figures_in (Err none) = []
+figures_in (Ok found) = figures_of found.split
 
 -- one walk has one split
 split_one : (book links : List ℕ) (one other : Split) → SplitsInto book links one → SplitsInto book links other → figures_of one ≡ figures_of other
@@ -65,6 +58,6 @@ unfolding check_of tables_of first_bad_from number_at with_number mark_good vers
 splits_refused = every_row SplitRefused row_refuted row_refused wrong_splits refl
 
 -- the split of book A's route from 0 to 3
-pub loop_splits : cost_of_walk book_a 0 loop_a ≡ Permitted 342 (split 230 3 9 100)
+pub loop_splits : cost_of_walk book_a 0 loop_a ≡ permitted_at 342 (split 230 3 9 100)
 unfolding check_of tables_of first_bad_from number_at mark_good version_good counts_of counts_good line_good link_good join_good ascends seconds_good listed_in up_to turn_of look_up permitted cost_of cost_answer
 loop_splits = refl

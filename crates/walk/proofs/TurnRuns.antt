@@ -6,9 +6,9 @@ use mathlib.Core.Bool.{Bool, true, not}
 use native.Mathlib.Omega.{arith}
 use native.Mathlib.Decide.{dec_lt}
 use lib.Dec.{eqb}
-use borrow.Author.Tests.{eqb-false, not-true}
+use borrow.Author.Tests.{lt-ltb, le-ltb, eqb-false, not-true}
 use Rattle.book.specs.declared.Counts.{Counts}
-use Rattle.book.specs.declared.Checked.TheVariants.{Good}
+use Rattle.std.specs.Prelude.{Some, None, Ok}
 use Rattle.book.specs.Tables.{turn_table}
 use Rattle.book.specs.Entries.{turn_first, turn_second}
 use Rattle.book.specs.FirstBad.{first_bad_from}
@@ -18,6 +18,7 @@ use Rattle.book.proofs.FirstBad.{First, first_from}
 use Rattle.book.proofs.GoodBook.{good_book}
 use Rattle.walk.specs.View.{View, view_with}
 use Rattle.walk.specs.Walks.{turn_of}
+use Rattle.walk.specs.steps.Onward.{numbered, turn_found}
 use Rattle.walk.proofs.GoodView.{good_view, turn_links, turn_of_lem, turn_within}
 use Rattle.walk.proofs.Runs.{run_within, in_run, run_of}
 
@@ -30,7 +31,7 @@ pub same_turn_of : (book : List ℕ) (counts : Counts) (walks others : List ℕ)
 unfolding turn_of
 same_turn_of book counts walks others a b = refl
 
-module _ (book : List ℕ) (counts : Counts) (walks : List ℕ) (checked : check_of book ≡ Good counts) (a b : ℕ) where
+module _ (book : List ℕ) (counts : Counts) (walks : List ℕ) (checked : check_of book ≡ Ok counts) (a b : ℕ) where
   abbrev U : View
   U = view_with book counts walks
 
@@ -42,14 +43,20 @@ module _ (book : List ℕ) (counts : Counts) (walks : List ℕ) (checked : check
     follower : (t : ℕ) → t < to → t < counts.turns
     follower t h = omega (arith, run_within table counts.turns (a + 1))
 
-    pub turn_found : (t : ℕ) → from ≤ t → t < to → turn_second table t ≡ b → t ≡ turn_of U a b
-    turn_found t h l e =
+    by_links : (t : ℕ) → from ≤ t → t < to → turn_second table t ≡ b → t ≡ turn_of U a b
+    by_links t h l e =
         let first : turn_first table t ≡ a = in_run table counts.turns (good_book book counts checked).turns t (follower t l) a (omega arith) (omega arith) in
         sym (rw (first, e) at (turn_of_lem U (good_view book counts walks checked) t (follower t l)))
 
+    pub one_found : (t : ℕ) → from ≤ t → t < to → turn_second table t ≡ b → Some (numbered t) ≡ turn_found U a b
+    one_found t h l e =
+        let same = by_links t h l e in
+        let listed : turn_of U a b < counts.turns = rw same at (follower t l) in
+        rw (lt-ltb _ _ listed, ← same)
+
     -- where all of them lead elsewhere, there is no such turn
-    pub none_found : to ≤ first_bad_from (leads_elsewhere table b) from (to - from) → counts.turns ≡ turn_of U a b
-    none_found h = by (dec_lt (turn_of U a b) counts.turns)
+    past : to ≤ first_bad_from (leads_elsewhere table b) from (to - from) → counts.turns ≡ turn_of U a b
+    past h = by (dec_lt (turn_of U a b) counts.turns)
       where
         passed : First (leads_elsewhere table b) from (from + (to - from)) (first_bad_from (leads_elsewhere table b) from (to - from))
         passed = first_from (leads_elsewhere table b) from (to - from)
@@ -61,3 +68,6 @@ module _ (book : List ℕ) (counts : Counts) (walks : List ℕ) (checked : check
             let other : leads_elsewhere table b (turn_of U a b) ≡ true = passed.before (turn_of U a b) (omega arith) (omega arith) in
             absurd (eqb-false _ _ (not-true _ other) second)
         by (no n) = omega (arith, turn_within U a b)
+
+    pub none_found : to ≤ first_bad_from (leads_elsewhere table b) from (to - from) → None ≡ turn_found U a b
+    none_found h = rw (le-ltb (turn_of U a b) counts.turns (omega (arith, past h)))

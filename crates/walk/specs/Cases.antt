@@ -1,7 +1,6 @@
 -- Document 01, "Book A": the marked cases P1 to P10, with P11 of document 02, request 1, and what each says of walks.
-use Rattle.std.specs.Prelude.{ℕ, ◌<◌, ◌≡◌, List, [], ◌∷◌, length, get_or}
+use Rattle.std.specs.Prelude.{ℕ, ◌<◌, ◌≡◌, List, [], ◌∷◌, length, get_or, Ok}
 use Rattle.book.specs.declared.Counts.{Counts}
-use Rattle.book.specs.declared.Checked.TheVariants.{Good}
 use Rattle.book.specs.Number.{with_number}
 use Rattle.book.specs.Entries.{barred}
 use Rattle.book.specs.Check.{check_of}
@@ -117,4 +116,4 @@ changed_in c = with_changes c.book c.counts c.changes
 
 -- the changed book is good, and every claim of the case holds
 abbrev pub Holds : Case → Type 0
-Holds c = (check_of (changed_in c) ≡ Good c.counts) × All (Says (view_of c.book c.counts) (view_of (changed_in c) c.counts)) c.claims
+Holds c = (check_of (changed_in c) ≡ Ok c.counts) × All (Says (view_of c.book c.counts) (view_of (changed_in c) c.counts)) c.claims

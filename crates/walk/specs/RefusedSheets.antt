@@ -1,7 +1,6 @@
 -- Document 01, "Habits that give a neat wrong sheet": what each habit, and each slip beside them, would give, on book A or on the smallest book that shows it.
-use Rattle.std.specs.Prelude.{ℕ, ◌≡◌, List, [], ◌∷◌, ◌++◌}
+use Rattle.std.specs.Prelude.{ℕ, ◌≡◌, List, [], ◌∷◌, ◌++◌, Ok}
 use Rattle.book.specs.declared.Counts.{Counts}
-use Rattle.book.specs.declared.Checked.TheVariants.{Good}
 use Rattle.book.specs.Number.{with_number}
 use Rattle.book.specs.Check.{check_of}
 use Rattle.book.specs.BookA.{book_a, counts_a, written}
@@ -97,4 +96,4 @@ Denied U (route_to s links) = Route U 0 s links → ⊥
 
 -- the book is good and the sheet is not its
 abbrev pub Refused : Row → Type 0
-Refused row = (check_of row.book ≡ Good row.counts) × Denied (view_of row.book row.counts) row.sheet
+Refused row = (check_of row.book ≡ Ok row.counts) × Denied (view_of row.book row.counts) row.sheet

@@ -3,8 +3,7 @@ use Rattle.std.specs.Prelude.{ℕ, ◌≡◌, List, [], ◌∷◌}
 use Rattle.book.specs.Number.{with_number}
 use Rattle.book.specs.BookA.{book_a}
 use Rattle.walk.specs.declared.Split.{Split}
-use Rattle.walk.specs.declared.Costed.TheVariants.{Permitted}
-use Rattle.walk.specs.Given.{cost_of_walk}
+use Rattle.walk.specs.Given.{permitted_at, cost_of_walk}
 use Rattle.walk.specs.Cases.{long_headway_a}
 use Rattle.walk.specs.Labelled.{RightAlone}
 use Rattle.walk.specs.RefusedSheets.{listed_at_zero}
@@ -49,7 +48,7 @@ wrong_splits =
 
 -- the cost of these links, asked as those of a given walk from node 0, splits so, whatever it is
 abbrev pub SplitsInto : List ℕ → List ℕ → Split → Type 0
-SplitsInto book links figures = (cost : ℕ) × (cost_of_walk book 0 links ≡ Permitted cost figures)
+SplitsInto book links figures = (cost : ℕ) × (cost_of_walk book 0 links ≡ permitted_at cost figures)
 
 -- the right split alone
 abbrev pub SplitRefused : Parted → Type 0

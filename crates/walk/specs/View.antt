@@ -2,6 +2,7 @@
 use Rattle.std.specs.Prelude.{ℕ, zero, suc, List, [], ◌∷◌, ◌++◌, Bool, true, false, ◌&&◌, get_or, eqb}
 use Rattle.std.proofs.Math.Option.{Option, none, some}
 use Rattle.book.specs.declared.Counts.{Counts}
+use Rattle.walk.specs.declared.Viewed.{Viewed}
 use Rattle.book.specs.Tables.{line_table, link_table, turn_table, pair_table}
 use Rattle.book.specs.Entries.{line_headway, link_from, link_to, link_line, link_ride, turn_first, turn_second, turn_walk, pair_first, pair_second, pair_extra}
 
@@ -64,3 +65,7 @@ walks_of book counts = up_to counts.turns (turn_walk (turn_table book counts))
 
 abbrev pub view_of : List ℕ → Counts → View
 view_of book counts = view_with book counts (walks_of book counts)
+
+-- the view that is carried with its book
+abbrev pub view_in : Viewed → View
+view_in viewed = view_with viewed.book.bytes.now viewed.book.counts viewed.walks.now

@@ -1,7 +1,9 @@
 // Walks over a checked book: the figures that their rules read, which walks are permitted, and what they cost.
 #![tactic(auto)]
 
-use book::Refusal;
+ghost use Rattle.std.specs.Prelude.{◌≡◌, length};
+
+use book::{CheckedBook, Refusal, TurnNumber};
 
 mod figures;
 mod given;
@@ -13,23 +15,19 @@ mod steps;
 mod turns;
 mod walks;
 
+pub use book::{check, number_at, seconds_good, write_walk};
 pub use figures::START_BACK;
 pub use given::cost_of;
-pub use offered::{
-    bytes_in, carry, check, counts_in, link_from, link_line, link_to, number_at, seconds_good,
-    turn_first, turn_second, write_walk,
-};
-pub use pairs::{between_at, between_turns, pair_from, pairs_of};
+pub use offered::link_line;
 pub use splits::split_in;
-pub use steps::{link_cost, step_to, turn_cost};
-pub use turns::{followers, turn_of};
 pub use walks::read_walks;
 
-// The entries from `start` up to `end` of a table.
+// A checked book, with the walks as seen, one number a turn.
 #[derive(Clone, Copy)]
-pub struct Run {
-    pub start: u16,
-    pub end: u16,
+pub struct Viewed<'a> {
+    pub book: CheckedBook<'a>,
+    pub walks: &'a [u16],
+    ghost each: { length walks.now ≡ book.counts.turns },
 }
 
 // What stands between two successive turns of a walk.
@@ -41,15 +39,8 @@ pub enum Between {
     Nothing,
 }
 
-// A turn after another: it may not come, or it adds these seconds.
-#[derive(Clone, Copy)]
-pub enum Step {
-    Barred,
-    Seconds(u32),
-}
-
 // Where the minutes of a walk go, in seconds.
-#[derive(Clone, Copy)]
+#[derive(Clone, Copy, Default)]
 pub struct Split {
     pub ride: u32,
     pub wait: u32,
@@ -57,11 +48,24 @@ pub struct Split {
     pub extra: u32,
 }
 
-// What asking for the cost of a given walk answers: of a permitted one the cost, and the four figures that make it up.
+// A walk that one more link was added to: by this turn, which adds these figures.
 #[derive(Clone, Copy)]
-pub enum Costed {
+pub struct Added {
+    pub turn: TurnNumber,
+    pub split: Split,
+}
+
+// The cost of a permitted walk, and the four figures that make it up.
+#[derive(Clone, Copy)]
+pub struct Costed {
+    pub cost: u32,
+    pub split: Split,
+}
+
+// Why a given walk has no cost.
+#[derive(Clone, Copy)]
+pub enum NoCost {
     Refused(Refusal),
     TooLong,
     NotPermitted,
-    Permitted(u32, Split),
 }

@@ -1,67 +1,41 @@
 // One more link of a given walk.
-ghost use Rattle.std.specs.Prelude.{◌≡◌, ◌<◌, length};
-ghost use Rattle.book.specs.declared.Checked.TheVariants.{Good};
-ghost use Rattle.book.specs.Check.{check_of};
-ghost use Rattle.walk.specs.View.{view_with};
-ghost use Rattle.walk.specs.Labels.{start_back};
-ghost use Rattle.walk.specs.steps.Onward.{turn_before, stands_after, one_more};
+ghost use Rattle.std.specs.Prelude.{◌≡◌, ◌<◌, IfSome};
+ghost use Rattle.walk.specs.View.{view_in};
+ghost use Rattle.walk.specs.steps.Onward.{stands_after, turns_so_far, one_more};
 
-use super::figures::START_BACK;
-use super::pairs::between_turns;
-use super::splits::turn_split;
-use super::steps::may_step;
-use super::turns::turn_of;
-use super::{Between, Split};
-use book::{Counts, LinkNumber, TurnNumber};
+use super::{Added, Between, Viewed};
+use book::{LinkNumber, TurnNumber};
 
-// A walk that one more link was added to: it stops, or it goes on by this turn, which adds these figures.
-#[derive(Clone, Copy)]
-pub enum Advanced {
-    Stopped,
-    Onward(u16, Split),
-}
-
-// What stands before a turn, where the turn before it may be none.
-fn stands_after(
-    book: &[u8],
-    counts: Counts,
-    walks: &[u16],
-    before: u16,
-    turn: TurnNumber,
-) -> Between
-    requires book_value { check_of book.now ≡ Good counts }
-    requires walks_len { (length walks.now ≡ counts.turns) × (turn.0 < counts.turns) × ((before ≡ start_back → ⊥) → before < counts.turns) }
-    ensures { result ≡ stands_after (view_with book.now counts walks.now) turn.0 (turn_before before) }
-{
-    if before == START_BACK {
-        return Between::Nothing;
+impl Viewed<'_> {
+    // What stands before a turn, where the turn before it may be none.
+    fn stands_after(self, before: Option<TurnNumber>, turn: TurnNumber) -> Between
+        requires { (turn.0 < self.book.counts.turns) × IfSome before (λ p. p.0 < self.book.counts.turns) }
+        ensures { result ≡ stands_after (view_in self.entry) turn.0 (turns_so_far before) }
+    {
+        match before {
+            None => Between::Nothing,
+            Some(before) => self.between_turns(before, turn),
+        }
     }
-    between_turns(book, counts, walks, TurnNumber(before), turn)
-}
 
-// One more link after the last one, and after the turn before it.
-pub fn advance(
-    book: &[u8],
-    counts: Counts,
-    walks: &[u16],
-    before: u16,
-    last: LinkNumber,
-    link: LinkNumber,
-) -> Advanced
-    requires book_value { check_of book.now ≡ Good counts }
-    requires walks_len { (length walks.now ≡ counts.turns) × ((before ≡ start_back → ⊥) → before < counts.turns) }
-    ensures { result ≡ one_more (view_with book.now counts walks.now) before last.0 link.0 }
-{
-    let turn = turn_of(book, counts, last, link);
-    if counts.turns <= turn as usize {
-        return Advanced::Stopped;
+    // One more link after the last one, and after the turn before it.
+    pub fn advance(
+        self,
+        before: Option<TurnNumber>,
+        last: LinkNumber,
+        link: LinkNumber,
+    ) -> Option<Added>
+        requires { IfSome before (λ p. p.0 < self.book.counts.turns) }
+        ensures { result ≡ one_more (view_in self.entry) before last.0 link.0 }
+    {
+        let turn = self.turn_of(last, link)?;
+        let stands = self.stands_after(before, turn);
+        if !self.may_step(stands, turn) {
+            return None;
+        }
+        Some(Added {
+            turn,
+            split: self.turn_split(stands, turn),
+        })
     }
-    let stands = stands_after(book, counts, walks, before, TurnNumber(turn));
-    if !may_step(walks, stands, TurnNumber(turn)) {
-        return Advanced::Stopped;
-    }
-    Advanced::Onward(
-        turn,
-        turn_split(book, counts, walks, stands, TurnNumber(turn)),
-    )
 }

@@ -1,47 +1,69 @@
 // Two successive turns looked up within the first one's run of pairs, and what the look-up tells.
-ghost use Rattle.std.specs.Prelude.{◌≡◌, ◌+◌, ◌≤◌, ◌<◌, length, get_or, eqb};
+ghost use Rattle.std.specs.Prelude.{◌≡◌, ◌+◌, ◌≤◌, ◌<◌, get_or, eqb};
 ghost use Rattle.std.proofs.Math.Option.{none};
-ghost use Rattle.book.specs.declared.Checked.TheVariants.{Good};
 ghost use Rattle.book.specs.Tables.{pair_table};
 ghost use Rattle.book.specs.Entries.{barred};
-ghost use Rattle.book.specs.Check.{check_of};
 ghost use Rattle.book.specs.Runs.{run_from};
-ghost use Rattle.walk.specs.View.{view_with};
+ghost use Rattle.walk.specs.View.{view_in};
 ghost use Rattle.walk.specs.Walks.{look_up, listed_as, between, allowed, seconds};
 ghost use Rattle.walk.specs.steps.Pairs.{pair_from, listed_at};
 
-use super::{Between, Run};
-use book::{BARRED, Counts, TurnNumber, pair_extra, pair_second, pairs_from};
+use super::{Between, Viewed};
+use book::{BARRED, TurnNumber};
+use std::ops::Range;
 
-// The pairs whose first turn is this one.
-pub fn pairs_of(book: &[u8], counts: Counts, turn: TurnNumber) -> Run
-    requires { check_of book.now ≡ Good counts }
-    ensures start_value { result.start ≡ run_from (pair_table book.now counts) counts.pairs turn.0 }
-    ensures end_value { result.end ≡ run_from (pair_table book.now counts) counts.pairs (turn.0 + 1) }
-{
-    let number = turn.0 as usize;
-    let start = pairs_from(book, counts, number) as u16;
-    let end = pairs_from(book, counts, number + 1) as u16;
-    Run { start, end }
-}
+impl Viewed<'_> {
+    // The pairs whose first turn is this one.
+    pub fn pairs_of(self, turn: TurnNumber) -> Range<u16>
+        ensures start { result.start ≡ run_from (pair_table self.entry.book.bytes.now self.entry.book.counts) self.entry.book.counts.pairs turn.0 }
+        ensures end { result.end ≡ run_from (pair_table self.entry.book.bytes.now self.entry.book.counts) self.entry.book.counts.pairs (turn.0 + 1) }
+        ensures within { (result.start ≤ result.end) × (result.end ≤ self.entry.book.counts.pairs) }
+    {
+        let number = turn.0 as usize;
+        let start = self.book.pairs_from(number) as u16;
+        let end = self.book.pairs_from(number + 1) as u16;
+        start..end
+    }
 
-// The first pair from `from` up to `to` whose second turn is this one or a later one, or `to`.
-pub fn pair_from(book: &[u8], counts: Counts, from: u16, to: u16, turn: TurnNumber) -> u16
-    requires book_value { check_of book.now ≡ Good counts }
-    requires from_le_to { (from ≤ to) × (to ≤ counts.pairs) }
-    ensures { result ≡ pair_from (pair_table book.now counts) from to turn.0 }
-{
-    let number = turn.0;
-    let mut pair = from;
-    'pairs: loop {
-        if to <= pair {
-            break 'pairs to;
+    // The first pair from `from` up to `to` whose second turn is this one or a later one, or `to`.
+    pub fn pair_from(self, from: u16, to: u16, turn: TurnNumber) -> u16
+        requires { (from ≤ to) × (to ≤ self.book.counts.pairs) }
+        ensures { result ≡ pair_from (pair_table self.entry.book.bytes.now self.entry.book.counts) from to turn.0 }
+    {
+        for pair in from..to {
+            let second = self.book.pair_second(pair);
+            if turn.0 <= second.0 {
+                return pair;
+            }
         }
-        let second = pair_second(book, counts, pair);
-        if number <= second.0 {
-            break 'pairs pair;
+        to
+    }
+
+    // What stands between two turns, where the first one's pairs end at `to` and those before `at` are of earlier second turns.
+    pub fn between_at(self, at: u16, to: u16, before: TurnNumber, turn: TurnNumber) -> Between
+        requires turns { (before.0 < self.book.counts.turns) × (turn.0 < self.book.counts.turns) }
+        requires pairs { to ≤ self.book.counts.pairs }
+        ensures { result ≡ look_up (listed_at (pair_table self.entry.book.bytes.now self.entry.book.counts) at to turn.0) self.entry.book.counts.carry_over (get_or self.entry.walks.now before.0 0) (get_or self.entry.walks.now turn.0 0) }
+    {
+        if at < to && self.book.pair_second(at).0 == turn.0 {
+            return listed(self.book.pair_extra(at));
         }
-        pair += 1;
+        let carried = self.book.counts.carry_over as u16;
+        unlisted(
+            carried,
+            self.walks[before.0 as usize],
+            self.walks[turn.0 as usize],
+        )
+    }
+
+    // What stands between two successive turns.
+    pub fn between_turns(self, before: TurnNumber, turn: TurnNumber) -> Between
+        requires { (before.0 < self.book.counts.turns) × (turn.0 < self.book.counts.turns) }
+        ensures { result ≡ between (view_in self.entry) before.0 turn.0 }
+    {
+        let run = self.pairs_of(before);
+        let at = self.pair_from(run.start, run.end, turn);
+        self.between_at(at, run.end, before, turn)
     }
 }
 
@@ -55,80 +77,33 @@ fn listed(extra: u16) -> Between
     }
 }
 
-fn unlisted(counts: Counts, before: u16, after: u16) -> Between
-    requires { counts.carry_over < 65536 }
-    ensures { result ≡ look_up none counts.carry_over before after }
+#[tactic(auto, unfolding(crate::specs::Walks::look_up))]
+fn unlisted(carried: u16, before: u16, after: u16) -> Between
+    ensures { result ≡ look_up none carried before after }
 {
-    if before == 0 {
+    if before == 0 || after == 0 {
         return Between::Nothing;
     }
-    if after == 0 {
-        return Between::Nothing;
-    }
-    Between::CarriedOver(counts.carry_over as u16)
+    Between::CarriedOver(carried)
 }
 
-// What stands between two turns, where the first one's pairs end at `to` and those before `at` are of earlier second turns.
-pub fn between_at(
-    book: &[u8],
-    counts: Counts,
-    walks: &[u16],
-    at: u16,
-    to: u16,
-    before: TurnNumber,
-    turn: TurnNumber,
-) -> Between
-    requires book_value { check_of book.now ≡ Good counts }
-    requires walks_len { (length walks.now ≡ counts.turns) × (before.0 < counts.turns) × (turn.0 < counts.turns) × (to ≤ counts.pairs) }
-    ensures { result ≡ look_up (listed_at (pair_table book.now counts) at to turn.0) counts.carry_over (get_or walks.now before.0 0) (get_or walks.now turn.0 0) }
-{
-    let first_walk = walks[before.0 as usize];
-    let second_walk = walks[turn.0 as usize];
-    if to <= at {
-        return unlisted(counts, first_walk, second_walk);
+impl Between {
+    pub fn allowed(self) -> bool
+        ensures { result ≡ allowed self }
+    {
+        match self {
+            Between::Forbidden => false,
+            _ => true,
+        }
     }
-    let second = pair_second(book, counts, at);
-    if second.0 != turn.0 {
-        return unlisted(counts, first_walk, second_walk);
-    }
-    listed(pair_extra(book, counts, at))
-}
 
-// What stands between two successive turns.
-pub fn between_turns(
-    book: &[u8],
-    counts: Counts,
-    walks: &[u16],
-    before: TurnNumber,
-    turn: TurnNumber,
-) -> Between
-    requires book_value { check_of book.now ≡ Good counts }
-    requires walks_len { (length walks.now ≡ counts.turns) × (before.0 < counts.turns) × (turn.0 < counts.turns) }
-    ensures { result ≡ between (view_with book.now counts walks.now) before.0 turn.0 }
-{
-    let run = pairs_of(book, counts, before);
-    let at = pair_from(book, counts, run.start, run.end, turn);
-    between_at(book, counts, walks, at, run.end, before, turn)
-}
-
-pub fn allowed(stands: Between) -> bool
-    ensures { result ≡ allowed stands }
-{
-    match stands {
-        Between::Listed(_) => true,
-        Between::Forbidden => false,
-        Between::CarriedOver(_) => true,
-        Between::Nothing => true,
-    }
-}
-
-pub fn seconds(stands: Between) -> u16
-    ensures { result ≡ seconds stands }
-{
-    match stands {
-        Between::Listed(extra) => extra,
-        Between::Forbidden => 0,
-        Between::CarriedOver(extra) => extra,
-        Between::Nothing => 0,
+    pub fn seconds(self) -> u16
+        ensures { result ≡ seconds self }
+    {
+        match self {
+            Between::Listed(extra) => extra,
+            Between::CarriedOver(extra) => extra,
+            _ => 0,
+        }
     }
 }

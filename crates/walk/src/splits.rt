@@ -1,93 +1,67 @@
 // Where the minutes go (document 02, request 5): what a walk's first link and each turn after it add to the four figures.
-ghost use Rattle.std.specs.Prelude.{◌≡◌, ◌+◌, ◌<◌, length};
-ghost use Rattle.book.specs.declared.Checked.TheVariants.{Good};
-ghost use Rattle.book.specs.Check.{check_of};
-ghost use Rattle.walk.specs.View.{view_of, view_with};
+ghost use Rattle.std.specs.Prelude.{◌≡◌, ◌+◌, ◌<◌};
+ghost use Rattle.walk.specs.View.{view_in};
 ghost use Rattle.walk.specs.Walks.{seconds, total};
-ghost use Rattle.walk.specs.steps.Splits.{no_split, link_split, turn_split, together, split_in};
+ghost use Rattle.walk.specs.steps.Splits.{link_split, turn_split, together, split_in};
 
-use super::pairs::seconds;
-use super::steps::{link_wait, turn_wait};
-use super::{Between, Costed, Split};
-use book::{Counts, LinkNumber, TurnNumber, link_ride, turn_second};
+use super::{Between, Costed, NoCost, Split, Viewed};
+use book::{LinkNumber, TurnNumber};
 
-pub fn no_split() -> Split
-    ensures { result ≡ no_split }
-{
-    Split {
-        ride: 0,
-        wait: 0,
-        walk: 0,
-        extra: 0,
+impl Viewed<'_> {
+    pub fn link_split(self, link: LinkNumber) -> Split
+        requires { link.0 < self.book.counts.links }
+        ensures { result ≡ link_split (view_in self.entry) link.0 }
+    {
+        Split {
+            ride: self.book.link_ride(link) as u32,
+            wait: self.link_wait(link),
+            walk: 0,
+            extra: 0,
+        }
+    }
+
+    // A turn after what stands between it and the turn before.
+    pub fn turn_split(self, stands: Between, turn: TurnNumber) -> Split
+        requires { turn.0 < self.book.counts.turns }
+        ensures { result ≡ turn_split (view_in self.entry) (seconds stands) turn.0 }
+    {
+        let second = self.turn_second(turn);
+        Split {
+            ride: self.book.link_ride(second) as u32,
+            wait: self.turn_wait(turn),
+            walk: self.walks[turn.0 as usize] as u32,
+            extra: stands.seconds() as u32,
+        }
     }
 }
 
-pub fn link_split(book: &[u8], counts: Counts, link: LinkNumber) -> Split
-    requires { (check_of book.now ≡ Good counts) × (link.0 < counts.links) }
-    ensures { result ≡ link_split (view_of book.now counts) link.0 }
-{
-    let ride = link_ride(book, counts, link);
-    let wait = link_wait(book, counts, link);
-    Split {
-        ride: ride as u32,
-        wait,
-        walk: 0,
-        extra: 0,
+impl Split {
+    pub fn together(self, more: Split) -> Split
+        requires { total self + total more < 4294967296 }
+        ensures { result ≡ together self more }
+    {
+        Split {
+            ride: self.ride + more.ride,
+            wait: self.wait + more.wait,
+            walk: self.walk + more.walk,
+            extra: self.extra + more.extra,
+        }
     }
-}
 
-// A turn after what stands between it and the turn before.
-pub fn turn_split(
-    book: &[u8],
-    counts: Counts,
-    walks: &[u16],
-    stands: Between,
-    turn: TurnNumber,
-) -> Split
-    requires book_value { check_of book.now ≡ Good counts }
-    requires walks_len { (length walks.now ≡ counts.turns) × (turn.0 < counts.turns) }
-    ensures { result ≡ turn_split (view_with book.now counts walks.now) (seconds stands) turn.0 }
-{
-    let second = turn_second(book, counts, turn);
-    let ride = link_ride(book, counts, second);
-    let wait = turn_wait(book, counts, walks, turn);
-    let walk = walks[turn.0 as usize];
-    let extra = seconds(stands);
-    Split {
-        ride: ride as u32,
-        wait,
-        walk: walk as u32,
-        extra: extra as u32,
+    pub fn total(self) -> u32
+        requires { total self < 4294967296 }
+        ensures { result ≡ total self }
+    {
+        self.ride + self.wait + self.walk + self.extra
     }
-}
-
-pub fn together(so_far: Split, more: Split) -> Split
-    requires { total so_far + total more < 4294967296 }
-    ensures { result ≡ together so_far more }
-{
-    Split {
-        ride: so_far.ride + more.ride,
-        wait: so_far.wait + more.wait,
-        walk: so_far.walk + more.walk,
-        extra: so_far.extra + more.extra,
-    }
-}
-
-pub fn total(split: Split) -> u32
-    requires { total split < 4294967296 }
-    ensures { result ≡ total split }
-{
-    split.ride + split.wait + split.walk + split.extra
 }
 
 // The split in an answer: noughts where the walk has no cost.
-pub fn split_in(costed: Costed) -> Split
-    ensures { result ≡ split_in costed }
+pub fn split_in(answer: Result<Costed, NoCost>) -> Split
+    ensures { result ≡ split_in answer }
 {
-    match costed {
-        Costed::Refused(_) => no_split(),
-        Costed::TooLong => no_split(),
-        Costed::NotPermitted => no_split(),
-        Costed::Permitted(_, split) => split,
+    match answer {
+        Ok(costed) => costed.split,
+        Err(_) => Split::default(),
     }
 }

@@ -1,98 +1,84 @@
 // What a walk's first link costs, what a turn adds, and the step from a turn to the next.
-ghost use Rattle.std.specs.Prelude.{◌≡◌, not, ◌&&◌, ◌<◌, eqb, length, get_or};
-ghost use Rattle.book.specs.declared.Checked.TheVariants.{Good};
-ghost use Rattle.book.specs.Entries.{barred};
-ghost use Rattle.book.specs.Check.{check_of};
-ghost use Rattle.walk.specs.View.{view_of, view_with};
-ghost use Rattle.walk.specs.Walks.{allowed, link_wait, boards, turn_wait};
+ghost use Rattle.std.specs.Prelude.{◌≡◌, ◌≤◌, ◌<◌};
+ghost use Rattle.walk.specs.View.{view_in};
+ghost use Rattle.walk.specs.Walks.{link_wait, boards, turn_wait};
 ghost use Rattle.walk.specs.steps.Costs.{link_cost, turn_cost};
-ghost use Rattle.walk.specs.steps.Pairs.{step_to};
+ghost use Rattle.walk.specs.steps.Pairs.{may_step, step_to};
 
-use super::pairs::{allowed, seconds};
-use super::{Between, Step};
-use book::{
-    BARRED, Counts, LinkNumber, TurnNumber, line_headway, link_line, link_ride, turn_first,
-    turn_second,
-};
+use super::{Between, Viewed};
+use book::{BARRED, LinkNumber, TurnNumber};
 
-// Half the headway of its line, rounded up.
-pub fn link_wait(book: &[u8], counts: Counts, link: LinkNumber) -> u32
-    requires { (check_of book.now ≡ Good counts) × (link.0 < counts.links) }
-    ensures { result ≡ link_wait (view_of book.now counts) link.0 }
-{
-    let line = link_line(book, counts, link);
-    let headway = line_headway(book, counts, line);
-    (headway as u32 + 1) / 2
-}
-
-pub fn link_cost(book: &[u8], counts: Counts, link: LinkNumber) -> u32
-    requires { (check_of book.now ≡ Good counts) × (link.0 < counts.links) }
-    ensures { result ≡ link_cost (view_of book.now counts) link.0 }
-{
-    let ride = link_ride(book, counts, link);
-    ride as u32 + link_wait(book, counts, link)
-}
-
-// Document 02, request 1: who walks, or changes lines, waits again.
-fn turn_boards(book: &[u8], counts: Counts, walks: &[u16], turn: TurnNumber) -> bool
-    requires book_value { check_of book.now ≡ Good counts }
-    requires walks_len { (length walks.now ≡ counts.turns) × (turn.0 < counts.turns) }
-    ensures { result ≡ boards (view_with book.now counts walks.now) turn.0 }
-{
-    let walk = walks[turn.0 as usize];
-    let first = turn_first(book, counts, turn);
-    let second = turn_second(book, counts, turn);
-    let line_before = link_line(book, counts, first);
-    let line = link_line(book, counts, second);
-    (0 < walk) | !(line_before == line)
-}
-
-pub fn turn_wait(book: &[u8], counts: Counts, walks: &[u16], turn: TurnNumber) -> u32
-    requires book_value { check_of book.now ≡ Good counts }
-    requires walks_len { (length walks.now ≡ counts.turns) × (turn.0 < counts.turns) }
-    ensures { result ≡ turn_wait (view_with book.now counts walks.now) turn.0 }
-{
-    if !turn_boards(book, counts, walks, turn) {
-        return 0;
+impl Viewed<'_> {
+    // Half the headway of its line, rounded up.
+    pub fn link_wait(self, link: LinkNumber) -> u32
+        requires { link.0 < self.book.counts.links }
+        ensures { result ≡ link_wait (view_in self.entry) link.0 }
+    {
+        let line = self.book.link_line(link);
+        let headway = self.book.line_headway(line);
+        (headway as u32 + 1) / 2
     }
-    let second = turn_second(book, counts, turn);
-    link_wait(book, counts, second)
-}
 
-pub fn turn_cost(book: &[u8], counts: Counts, walks: &[u16], turn: TurnNumber) -> u32
-    requires book_value { check_of book.now ≡ Good counts }
-    requires walks_len { (length walks.now ≡ counts.turns) × (turn.0 < counts.turns) }
-    ensures { result ≡ turn_cost (view_with book.now counts walks.now) turn.0 }
-{
-    let walk = walks[turn.0 as usize];
-    let second = turn_second(book, counts, turn);
-    let ride = link_ride(book, counts, second);
-    walk as u32 + (ride as u32 + turn_wait(book, counts, walks, turn))
-}
-
-// Whether a turn may come after what stands between it and the turn before.
-pub fn may_step(walks: &[u16], stands: Between, turn: TurnNumber) -> bool
-    requires { turn.0 < length walks.now }
-    ensures { result ≡ (not (eqb (get_or walks.now turn.0 0) barred) && allowed stands) }
-{
-    let walk = walks[turn.0 as usize];
-    !(walk == BARRED) & allowed(stands)
-}
-
-// The step to a turn, after what stands between it and the turn before.
-pub fn step_to(
-    book: &[u8],
-    counts: Counts,
-    walks: &[u16],
-    stands: Between,
-    turn: TurnNumber,
-) -> Step
-    requires book_value { check_of book.now ≡ Good counts }
-    requires walks_len { (length walks.now ≡ counts.turns) × (turn.0 < counts.turns) }
-    ensures { result ≡ step_to (view_with book.now counts walks.now) stands turn.0 }
-{
-    if !may_step(walks, stands, turn) {
-        return Step::Barred;
+    pub fn link_cost(self, link: LinkNumber) -> u32
+        requires { link.0 < self.book.counts.links }
+        ensures value { result ≡ link_cost (view_in self.entry) link.0 }
+        ensures limited { result ≤ 39600 }
+    {
+        let ride = self.book.link_ride(link);
+        ride as u32 + self.link_wait(link)
     }
-    Step::Seconds(seconds(stands) as u32 + turn_cost(book, counts, walks, turn))
+
+    // Document 02, request 1: who walks, or changes lines, waits again.
+    fn turn_boards(self, turn: TurnNumber) -> bool
+        requires { turn.0 < self.book.counts.turns }
+        ensures { result ≡ boards (view_in self.entry) turn.0 }
+    {
+        let walk = self.walks[turn.0 as usize];
+        let first = self.turn_first(turn);
+        let second = self.turn_second(turn);
+        let line_before = self.book.link_line(first);
+        let line = self.book.link_line(second);
+        (0 < walk) | !(line_before == line)
+    }
+
+    pub fn turn_wait(self, turn: TurnNumber) -> u32
+        requires { turn.0 < self.book.counts.turns }
+        ensures { result ≡ turn_wait (view_in self.entry) turn.0 }
+    {
+        if !self.turn_boards(turn) {
+            return 0;
+        }
+        self.link_wait(self.turn_second(turn))
+    }
+
+    pub fn turn_cost(self, turn: TurnNumber) -> u32
+        requires { turn.0 < self.book.counts.turns }
+        ensures value { result ≡ turn_cost (view_in self.entry) turn.0 }
+        ensures limited { result ≤ 105135 }
+    {
+        let walk = self.walks[turn.0 as usize];
+        let second = self.turn_second(turn);
+        let ride = self.book.link_ride(second);
+        walk as u32 + (ride as u32 + self.turn_wait(turn))
+    }
+
+    // Whether a turn may come after what stands between it and the turn before.
+    pub fn may_step(self, stands: Between, turn: TurnNumber) -> bool
+        requires { turn.0 < self.book.counts.turns }
+        ensures { result ≡ may_step (view_in self.entry) stands turn.0 }
+    {
+        let walk = self.walks[turn.0 as usize];
+        !(walk == BARRED) & stands.allowed()
+    }
+
+    // The seconds that a turn adds after what stands between it and the turn before, if it may come.
+    pub fn step_to(self, stands: Between, turn: TurnNumber) -> Option<u32>
+        requires { turn.0 < self.book.counts.turns }
+        ensures { result ≡ step_to (view_in self.entry) stands turn.0 }
+    {
+        if !self.may_step(stands, turn) {
+            return None;
+        }
+        Some(stands.seconds() as u32 + self.turn_cost(turn))
+    }
 }

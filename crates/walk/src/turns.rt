@@ -1,43 +1,39 @@
 // The turns that follow a link, and the turn from one link to another.
-ghost use Rattle.std.specs.Prelude.{◌≡◌, ◌+◌};
-ghost use Rattle.book.specs.declared.Checked.TheVariants.{Good};
+ghost use Rattle.std.specs.Prelude.{◌≡◌, ◌≤◌, ◌+◌};
 ghost use Rattle.book.specs.Tables.{turn_table};
-ghost use Rattle.book.specs.Check.{check_of};
 ghost use Rattle.book.specs.Runs.{run_from};
-ghost use Rattle.walk.specs.View.{view_of};
-ghost use Rattle.walk.specs.Walks.{turn_of};
+ghost use Rattle.walk.specs.View.{view_in};
+ghost use Rattle.walk.specs.steps.Onward.{turn_found};
 
-use super::Run;
-use book::{Counts, LinkNumber, TurnNumber, turn_second, turns_from};
+use super::Viewed;
+use book::{LinkNumber, TurnNumber};
+use std::ops::Range;
 
-// The turns whose first link is this one.
-pub fn followers(book: &[u8], counts: Counts, link: LinkNumber) -> Run
-    requires { check_of book.now ≡ Good counts }
-    ensures start_value { result.start ≡ run_from (turn_table book.now counts) counts.turns link.0 }
-    ensures end_value { result.end ≡ run_from (turn_table book.now counts) counts.turns (link.0 + 1) }
-{
-    let number = link.0 as usize;
-    let start = turns_from(book, counts, number) as u16;
-    let end = turns_from(book, counts, number + 1) as u16;
-    Run { start, end }
-}
+impl Viewed<'_> {
+    // The turns whose first link is this one.
+    pub fn followers(self, link: LinkNumber) -> Range<u16>
+        ensures start { result.start ≡ run_from (turn_table self.entry.book.bytes.now self.entry.book.counts) self.entry.book.counts.turns link.0 }
+        ensures end { result.end ≡ run_from (turn_table self.entry.book.bytes.now self.entry.book.counts) self.entry.book.counts.turns (link.0 + 1) }
+        ensures within { (result.start ≤ result.end) × (result.end ≤ self.entry.book.counts.turns) }
+    {
+        let number = link.0 as usize;
+        let start = self.book.turns_from(number) as u16;
+        let end = self.book.turns_from(number + 1) as u16;
+        start..end
+    }
 
-// The number of the turn from one link to the other, or the count of turns where there is none.
-pub fn turn_of(book: &[u8], counts: Counts, first: LinkNumber, second: LinkNumber) -> u16
-    requires { check_of book.now ≡ Good counts }
-    ensures { result ≡ turn_of (view_of book.now counts) first.0 second.0 }
-{
-    let run = followers(book, counts, first);
-    let end = run.end;
-    let mut turn = run.start;
-    'turns: loop {
-        if end <= turn {
-            break 'turns counts.turns as u16;
+    // The turn from one link to the other, if there is one.
+    pub fn turn_of(self, first: LinkNumber, second: LinkNumber) -> Option<TurnNumber>
+        ensures { result ≡ turn_found (view_in self.entry) first.0 second.0 }
+    {
+        let run = self.followers(first);
+        let start = run.start;
+        let end = run.end;
+        for turn in start..end {
+            if self.turn_second(TurnNumber(turn)).0 == second.0 {
+                return Some(TurnNumber(turn));
+            }
         }
-        let link = turn_second(book, counts, TurnNumber(turn));
-        if link.0 == second.0 {
-            break 'turns turn;
-        }
-        turn += 1;
+        None
     }
 }

@@ -1,10 +1,9 @@
 -- What a walk's first link and each turn after it add to the four figures, and the figures in an answer.
-use Rattle.std.specs.Prelude.{ℕ, ◌+◌}
+use Rattle.std.specs.Prelude.{ℕ, ◌+◌, Ok, Err}
 use Rattle.walk.specs.declared.Split.{Split}
-use Rattle.walk.specs.declared.Costed.{Costed}
-use Rattle.walk.specs.declared.Costed.TheVariants.{Refused, TooLong, NotPermitted, Permitted}
 use Rattle.walk.specs.View.{View}
 use Rattle.walk.specs.Walks.{link_wait, turn_wait}
+use Rattle.walk.specs.Given.{Answer}
 
 abbrev pub no_split : Split
 no_split = record { ride = 0; wait = 0; walk = 0; extra = 0 }
@@ -20,8 +19,6 @@ abbrev pub together : Split → Split → Split
 together a b = record { ride = a.ride + b.ride; wait = a.wait + b.wait; walk = a.walk + b.walk; extra = a.extra + b.extra }
 
 -- noughts where the walk has no cost
-abbrev pub split_in : Costed → Split
-split_in (Refused found) = no_split
-split_in TooLong = no_split
-split_in NotPermitted = no_split
-split_in (Permitted cost split) = split
+abbrev pub split_in : Answer → Split
+split_in (Err none) = no_split
+split_in (Ok costed) = costed.split

@@ -1,5 +1,5 @@
 -- The two ends close in on the first entry of the run.
-use Rattle.std.proofs.Common.{rules}
+use Rattle.std.proofs.Common.{rules, arith}
 use Rattle.book.proofs.Halving.{whole, upper, lower, met}
 use Rattle.book.proofs.runs.run_from.Goals as goal
 
@@ -13,4 +13,4 @@ pub halving-preserved : goal.halving-preserved
 halving-preserved c = lower _ _ _ c.requires _ _ _ c.halving.invariant (search rules) (search rules) (search rules)
 
 pub returns : goal.returns
-returns c = met _ _ _ _ _ c.halving.invariant (search rules)
+returns c = record { value = met _ _ _ _ _ c.halving.invariant (search rules); within = omega (arith, c.halving.invariant.order, c.halving.invariant.within) }

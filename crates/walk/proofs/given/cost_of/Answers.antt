@@ -1,14 +1,11 @@
 -- The check decides first.
-use mathlib.Core.Path.{sym, ◌∙◌}
+use Rattle.std.proofs.Common.{sym, ◌∙◌}
+use Rattle.std.proofs.lemmas.Result.{err_from_is_err_and}
 use Rattle.walk.specs.Given.{cost_answer}
 use Rattle.walk.proofs.given.cost_of.Goals as goal
 
-pub cost_in-requires : goal.cost_in-requires
-cost_in-requires c = sym c.check.ensures ∙ c.in-Good.is
-
-pub returns-in-Refused : goal.returns-in-Refused
+pub returns-in_err-counts : goal.returns-in_err-counts
 unfolding cost_answer
-returns-in-Refused c = rw (sym c.check.ensures ∙ c.in-Refused.is)
-
-pub returns-in-Good : goal.returns-in-Good
-returns-in-Good c = rw (sym c.check.ensures ∙ c.in-Good.is) c.cost_in.ensures
+returns-in_err-counts c =
+    let p = err_from_is_err_and c.from_residual.result c.from_residual.ensures.1 in
+    rw (p.1, p.2, sym c.check.ensures ∙ c.in_err-counts.was)

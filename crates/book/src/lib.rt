@@ -59,7 +59,7 @@ pub enum Refusal {
     NoNode,
     Change,
     LabelLength,
-    Label,
+    UntrueLabel,
     NoWalk,
     NoRoom,
     Fares,

@@ -21,7 +21,7 @@ impl Refusal {
             Refusal::NoNode => 10,
             Refusal::Change => 11,
             Refusal::LabelLength => 12,
-            Refusal::Label => 13,
+            Refusal::UntrueLabel => 13,
             Refusal::NoWalk => 14,
             Refusal::NoRoom => 15,
             Refusal::Fares => 17,

@@ -8,7 +8,7 @@ use native.Mathlib.Decide.{dec_lt}
 use lib.Dec.{ltb}
 use borrow.Author.Tests.{ltb-true, ltb-false}
 use Rattle.book.specs.declared.Counts.{Counts}
-use Rattle.book.specs.declared.Checked.TheVariants.{Good}
+use Rattle.std.specs.Prelude.{Ok}
 use Rattle.book.specs.Tables.{turn_table, pair_table}
 use Rattle.book.specs.Entries.{turn_first, turn_second, pair_second}
 use Rattle.book.specs.Check.{check_of}
@@ -22,7 +22,7 @@ use Rattle.walk.proofs.PairRuns.{listed_run}
 
 -- turn p's followers are the turns from `start` up to `end`, and its pairs those from `first` up to `to`
 pub record RunsOf (book : List ℕ) (counts : Counts) (p start end first to : ℕ) : Type 0 where
-  pub checked : check_of book ≡ Good counts
+  pub checked : check_of book ≡ Ok counts
   pub link : ℕ
   pub leads : link ≡ turn_second (turn_table book counts) p
   pub starts : start ≡ run_from (turn_table book counts) counts.turns link

@@ -7,7 +7,7 @@ use mathlib.Core.Bool.{Bool, true, false}
 use native.Mathlib.Omega.{arith}
 use lib.ListN.{length, drop}
 use Rattle.book.specs.declared.Counts.{Counts}
-use Rattle.book.specs.declared.Checked.TheVariants.{Good}
+use Rattle.std.specs.Prelude.{Ok, Some, None, Option}
 use Rattle.book.specs.Check.{check_of}
 use Rattle.book.proofs.GoodBook.{good_book}
 use Rattle.walk.specs.View.{View, view_of, walks_of}
@@ -16,19 +16,14 @@ use Rattle.walk.specs.Labels.{Table, Entry, entry_at, start_back, TrueTable, Tru
 use Rattle.walk.proofs.theory.Laws.{Compared, lt_tri, clash}
 use Rattle.walk.proofs.GoodView.{GoodView, good_view}
 use Rattle.walk.proofs.LabelLaws.{turn_one, link_one, route_one}
-use Rattle.search.specs.declared.Searched.{Searched}
-use Rattle.search.specs.declared.Searched.TheVariants.{Done as SearchDone}
-use Rattle.search.specs.declared.Picked.{Picked}
-use Rattle.search.specs.declared.Picked.TheVariants.{Turn, Nothing}
-use Rattle.search.specs.declared.Routed.{Routed}
-use Rattle.search.specs.declared.Routed.TheVariants.{Done as RouteDone}
-use Rattle.search.specs.Search.{Search, refused, done}
-use Rattle.search.specs.Route.{RouteOnward, no_walk, no_room, done as routed, Routing, refused as route-refused, untrue, onward}
+use Rattle.search.specs.Search.{Search, refused, done, Searched}
+use Rattle.search.specs.Route.{RouteOnward, no_walk, no_room, done as routed, Routing, refused as route-refused, untrue, onward, routed, RouteAnswer}
 use Rattle.search.specs.steps.Tables.{Sized}
 use Rattle.search.specs.steps.Judging.{Tells}
 use Rattle.search.specs.steps.Picking.{Picks}
 use Rattle.search.proofs.TableLaws.{same_table}
 use Rattle.search.proofs.Tested.{search_passed, route_passed}
+use Rattle.book.specs.declared.TurnNumber.{TurnNumber}
 
 -- two true tables are one where every entry has one true value
 module _ (count : ℕ) (TrueAt : ℕ → Entry → Type 0) where
@@ -38,7 +33,7 @@ module _ (count : ℕ) (TrueAt : ℕ → Entry → Type 0) where
   one_table : ((k : ℕ) (e f : Entry) → TrueAt k e → TrueAt k f → e ≡ f) → (one other : Table) → TrueTable count TrueAt one → TrueTable count TrueAt other → one ≡ other
   one_table same one other a b = same_table (true_sized one a) (true_sized other b) (λ k h. same k (entry_at one k) (entry_at other k) (a.entry k h) (b.entry k h))
 
-module _ (book : List ℕ) (counts : Counts) (h : check_of book ≡ Good counts) (r : ℕ) where
+module _ (book : List ℕ) (counts : Counts) (h : check_of book ≡ Ok counts) (r : ℕ) where
   -- the labels of a good book from one origin are one
   pub labels_one : (turns links turns-too links-too : Table) → TrueLabels (view_of book counts) r turns links → TrueLabels (view_of book counts) r turns-too links-too → (turns ≡ turns-too) × (links ≡ links-too)
   labels_one turns links turns-too links-too a b =
@@ -81,7 +76,7 @@ module _ (U : View) (good : GoodView U) (r s : ℕ) (buffer : List ℕ) where
   not_both : (walk other : List ℕ) → Route U r s walk → Route U r s other → length walk ≤ length buffer → length buffer < length other → ⊥
   not_both walk other w v fits short = omega (arith, ap length (route_one U good r s walk other w v))
 
-  onward_determined : (one other : Routed) (after_one after-other : List ℕ) → RouteOnward U r s buffer one after_one → RouteOnward U r s buffer other after-other → (one ≡ other) × (after_one ≡ after-other)
+  onward_determined : (one other : RouteAnswer) (after_one after-other : List ℕ) → RouteOnward U r s buffer one after_one → RouteOnward U r s buffer other after-other → (one ≡ other) × (after_one ≡ after-other)
   onward_determined one other a b (no_walk n e f) (no_walk n' e' f') = (e ∙ sym e', f ∙ sym f')
   onward_determined one other a b (no_walk n e f) (no_room walk w short e' f') = absurd (n walk w.walk)
   onward_determined one other a b (no_walk n e f) (routed walk w fits e' f') = absurd (n walk w.walk)
@@ -92,10 +87,10 @@ module _ (U : View) (good : GoodView U) (r s : ℕ) (buffer : List ℕ) where
   onward_determined one other a b (routed walk w fits e f) (no_room walk' w' short e' f') = absurd (not_both walk walk' w w' fits short)
   onward_determined one other a b (routed walk w fits e f) (routed walk' w' fits' e' f') =
       let same = route_one U good r s walk walk' w w' in
-      (e ∙ ap (λ (x : List ℕ). RouteDone (cost_of U x) (length x)) same ∙ sym e', f ∙ ap (λ (x : List ℕ). x ++ drop (length x) buffer) same ∙ sym f')
+      (e ∙ ap (λ (x : List ℕ). routed (cost_of U x) (length x)) same ∙ sym e', f ∙ ap (λ (x : List ℕ). x ++ drop (length x) buffer) same ∙ sym f')
 
 -- two outcomes that the contract of a route allows for one input are equal
-pub route_determined : (book : List ℕ) (r s : ℕ) (turns links : Table) (buffer : List ℕ) (one other : Routed) (after_one after-other : List ℕ) → Routing book r s turns links buffer one after_one → Routing book r s turns links buffer other after-other
+pub route_determined : (book : List ℕ) (r s : ℕ) (turns links : Table) (buffer : List ℕ) (one other : RouteAnswer) (after_one after-other : List ℕ) → Routing book r s turns links buffer one after_one → Routing book r s turns links buffer other after-other
     → (one ≡ other) × (after_one ≡ after-other)
 route_determined book r s turns links buffer one other a b (route-refused found e f g) (route-refused found' e' f' g') = (cc, g ∙ sym g')
 route_determined book r s turns links buffer one other a b (route-refused found e f g) (untrue counts e' n f' g') = clash (cc)
@@ -115,13 +110,13 @@ route_determined book r s turns links buffer one other a b (onward counts e labe
     onward_determined (view_of book counts) good r s buffer one other a b w (subst (λ (x : Counts). RouteOnward (view_of book x) r s buffer other b) same w')
 
 -- two turns that the contract of a pick allows for one state are one, so any picker that meets it may stand there
-pub pick_determined : (cost links settled : List ℕ) (one other : Picked) → Picks cost links settled one → Picks cost links settled other → one ≡ other
-pick_determined cost links settled Nothing Nothing a b = refl
-pick_determined cost links settled Nothing (Turn u) a b = clash (cc (a u.0 b.within, b.candidate))
-pick_determined cost links settled (Turn t) Nothing a b = clash (cc (a.candidate, b t.0 a.within))
-pick_determined cost links settled (Turn t) (Turn u) a b = by (lt_tri t.0 u.0)
+pub pick_determined : (cost links : List ℕ) (settled : List Bool) (one other : Option TurnNumber) → Picks cost links settled one → Picks cost links settled other → one ≡ other
+pick_determined cost links settled None None a b = refl
+pick_determined cost links settled None (Some u) a b = clash (cc (a u.0 b.within, b.candidate))
+pick_determined cost links settled (Some t) None a b = clash (cc (a.candidate, b t.0 a.within))
+pick_determined cost links settled (Some t) (Some u) a b = by (lt_tri t.0 u.0)
   where
-    by : Compared ◌<◌ t.0 u.0 → ◌≡◌ {A = Picked} (Turn t) (Turn u)
+    by : Compared ◌<◌ t.0 u.0 → ◌≡◌ {A = Picked} (Some t) (Some u)
     by (inl h) = absurd (a.least u.0 b.within b.candidate (b.first t.0 h a.candidate))
-    by (inr (inl same)) = ap (λ (n : ℕ). Turn (record { 0 = n })) same
+    by (inr (inl same)) = ap (λ (n : ℕ). Some (record { 0 = n })) same
     by (inr (inr h)) = absurd (b.least t.0 a.within a.candidate (a.first u.0 h b.candidate))

@@ -2,11 +2,11 @@
 use Prim.Native.Nat.{ℕ, ◌-◌, ◌<◌}
 use mathlib.Core.Path.{◌≡◌, sym, ap, ◌∙◌, subst}
 use mathlib.Core.List.{List}
-use mathlib.Core.Bool.{false}
+use mathlib.Core.Bool.{Bool, false}
 use native.Mathlib.Omega.{arith}
 use lib.ListN.{length, set, replicate, length-set, length-replicate}
 use Rattle.book.specs.declared.Counts.{Counts}
-use Rattle.book.specs.declared.Checked.TheVariants.{Good}
+use Rattle.std.specs.Prelude.{Ok}
 use Rattle.book.specs.Check.{check_of}
 use Rattle.book.specs.Entries.{turn_second}
 use Rattle.book.specs.Tables.{turn_table}
@@ -30,12 +30,12 @@ use Rattle.search.proofs.Underway.{Underway, begun, label_limits, more_done, set
 abbrev pub Starts : List ℕ → Counts → Table → ℕ → Type 0
 Starts book counts table r = table ≡ table_up_to counts.turns (start_entry (view_of book counts) r)
 
-pub record Going (book : List ℕ) (counts : Counts) (start table : Table) (marks : List ℕ) : Type 0 where
+pub record Going (book : List ℕ) (counts : Counts) (start table : Table) (marks : List Bool) : Type 0 where
   pub sized : Sized counts.turns table
   pub marked : length marks ≡ counts.turns
   pub way : (r : ℕ) → Starts book counts start r → Underway (view_of book counts) r table marks
 
-module _ (book : List ℕ) (counts : Counts) (h : check_of book ≡ Good counts) where
+module _ (book : List ℕ) (counts : Counts) (h : check_of book ≡ Ok counts) where
   abbrev U : View
   U = view_of book counts
 
@@ -48,33 +48,33 @@ module _ (book : List ℕ) (counts : Counts) (h : check_of book ≡ Good counts)
   pub few : U.turns < start_back
   few = omega (arith, (good_book book counts h).limited)
 
-  pub set_going : (start : Table) (marks : List ℕ) (r : ℕ) → Starts book counts start r → marks ≡ replicate counts.turns 0 → Going book counts start start marks
+  pub set_going : (start : Table) (marks : List Bool) (r : ℕ) → Starts book counts start r → marks ≡ replicate counts.turns false → Going book counts start start marks
   set_going start marks r e m =
       record {
         sized = subst (Sized counts.turns) (sym e) (up_to_sized counts.turns (start_entry U r));
-        marked = ap length m ∙ length-replicate counts.turns 0;
+        marked = ap length m ∙ length-replicate counts.turns false;
         way = λ o s. subst (λ (x : Table). Underway U o x marks) (sym s) (subst (Underway U o (table_up_to counts.turns (start_entry U o))) (sym m) (begun U limited good few o));
       }
 
-  module _ (start table : Table) (marks : List ℕ) (going : Going book counts start table marks) (r : ℕ) (e : Starts book counts start r) (u : ℕ) (next : LeastOf table.cost table.links marks u) where
+  module _ (start table : Table) (marks : List Bool) (going : Going book counts start table marks) (r : ℕ) (e : Starts book counts start r) (u : ℕ) (next : LeastOf table.cost table.links marks u) where
     pub picked_within : u < counts.turns
     picked_within = omega (arith, next.within, going.sized.cost)
 
     pub picked_limits : StepFits (entry_at table u).cost (entry_at table u).links
     picked_limits = label_limits U limited good few r table marks (going.way r e) u next
 
-    pub fewer_left : counts.turns - settled_count (set marks u 1) < counts.turns - settled_count marks
-    fewer_left = omega (arith, more_done U limited good few r table marks (going.way r e) u next, count_within (set marks u 1), length-set marks u 1, going.marked)
+    pub fewer_left : counts.turns - settled_count (set marks u true) < counts.turns - settled_count marks
+    fewer_left = omega (arith, more_done U limited good few r table marks (going.way r e) u next, count_within (set marks u true), length-set marks u true, going.marked)
 
-    pub goes_on : (table' : Table) (marks' : List ℕ) → table' ≡ table_up_to counts.turns (λ t. passed_to U u (entry_at table u).cost (entry_at table u).links (entry_at table t) t) → marks' ≡ set marks u 1 → Going book counts start table' marks'
+    pub goes_on : (table' : Table) (marks' : List Bool) → table' ≡ table_up_to counts.turns (λ t. passed_to U u (entry_at table u).cost (entry_at table u).links (entry_at table t) t) → marks' ≡ set marks u true → Going book counts start table' marks'
     goes_on table' marks' t m =
         record {
           sized = subst (Sized counts.turns) (sym t) (up_to_sized counts.turns _);
-          marked = ap length m ∙ length-set marks u 1 ∙ going.marked;
+          marked = ap length m ∙ length-set marks u true ∙ going.marked;
           way = λ o s. subst (λ (x : Table). Underway U o x marks') (sym t) (subst (Underway U o (table_up_to counts.turns (λ t. passed_to U u (entry_at table u).cost (entry_at table u).links (entry_at table t) t))) (sym m) (settled_one U limited good few o table marks (going.way o s) u next));
         }
 
-  pub none_left : (start table : Table) (marks : List ℕ) → Going book counts start table marks → ((v : ℕ) → v < length table.cost → is_candidate table.cost marks v ≡ false)
+  pub none_left : (start table : Table) (marks : List Bool) → Going book counts start table marks → ((v : ℕ) → v < length table.cost → is_candidate table.cost marks v ≡ false)
       → (r : ℕ) → Starts book counts start r → TrueTable counts.turns (TrueTurn U r) table
   none_left start table marks going no-candidate r e = all_settled U limited good few r table marks (going.way r e) no-candidate
 

@@ -1,4 +1,5 @@
 -- The turn held leads every candidate passed; one turn more keeps that so, and when all are passed it is the one to settle.
+use Rattle.std.specs.Prelude.{Some, None, Option}
 use Prim.Native.Nat.{ℕ, ◌+◌, ◌≤◌, ◌<◌}
 use mathlib.Core.Path.{◌≡◌, refl, sym, subst}
 use mathlib.Core.Logic.{◌⊎◌, inl, inr}
@@ -11,27 +12,25 @@ use Rattle.walk.specs.Labels.{Key, Less}
 use Rattle.walk.specs.steps.Rows.{key_less}
 use Rattle.walk.proofs.theory.Laws.{Compared, clash, refuted, one_more}
 use Rattle.walk.proofs.KeyLaws.{less_irrefl, less_trans, less_tri, shown_less, less_shown}
-use Rattle.search.specs.declared.Picked.{Picked}
-use Rattle.search.specs.declared.Picked.TheVariants.{Turn, Nothing}
 use Rattle.search.specs.steps.Picking.{is_candidate, key_at, Picks}
 use Rattle.search.specs.steps.LeastSoFar.{with_candidate, with_turn, HeldBelow}
 
 not_less_shown : (a b : Key) → (Less a b → ⊥) → key_less a b ≡ false
 not_less_shown a b never = refuted (key_less a b) (λ e. never (shown_less a b e))
 
-module _ (cost links settled : List ℕ) where
+module _ (cost links : List ℕ) (settled : List Bool) where
   abbrev key : ℕ → Key
   key turn = key_at cost links turn
 
   -- a candidate takes the place of a turn that it is less than; of two alike, where neither is, the one held stays
   module _ (turn least : TurnNumber) where
-    alike_stays : key turn.0 ≡ key least.0 → with_candidate cost links turn (Turn least) ≡ Turn least
+    alike_stays : key turn.0 ≡ key least.0 → with_candidate cost links turn (Some least) ≡ Some least
     alike_stays same = simp (not_less_shown _ _ (λ l. less_irrefl _ (subst (λ (k : Key). Less k (key least.0)) same l)), not_less_shown _ _ (λ l. less_irrefl _ (subst (λ (k : Key). Less (key least.0) k) same l)))
 
-    less_taken : Less (key turn.0) (key least.0) → with_candidate cost links turn (Turn least) ≡ Turn turn
+    less_taken : Less (key turn.0) (key least.0) → with_candidate cost links turn (Some least) ≡ Some turn
     less_taken l = simp (less_shown _ _ l)
 
-    lesser_stays : Less (key least.0) (key turn.0) → with_candidate cost links turn (Turn least) ≡ Turn least
+    lesser_stays : Less (key least.0) (key turn.0) → with_candidate cost links turn (Some least) ≡ Some least
     lesser_stays l = simp (not_less_shown _ _ (λ g. less_irrefl _ (less_trans _ _ _ l g)))
 
   -- a turn is less than another, or as little and not after it
@@ -44,11 +43,11 @@ module _ (cost links settled : List ℕ) where
     pub leads : (v : ℕ) → v < bound → is_candidate cost settled v ≡ true → Leads turn v
 
   -- of the turns below a bound the foremost candidate is held, or there is none
-  abbrev pub Holding : ℕ → Picked → Type 0
-  Holding bound (Turn turn) = Foremost bound turn.0
-  Holding bound Nothing = (v : ℕ) → v < bound → is_candidate cost settled v ≡ false
+  abbrev pub Holding : ℕ → Option TurnNumber → Type 0
+  Holding bound (Some turn) = Foremost bound turn.0
+  Holding bound None = (v : ℕ) → v < bound → is_candidate cost settled v ≡ false
 
-  pub held_below : (bound : ℕ) (held : Picked) → bound ≤ length cost → Holding bound held → HeldBelow (length cost) held
+  pub held_below : (bound : ℕ) (held : Option TurnNumber) → bound ≤ length cost → Holding bound held → HeldBelow (length cost) held
   held_below bound held h holding turn e =
       let below = (subst (Holding bound) e holding).below in
       omega arith
@@ -64,23 +63,23 @@ module _ (cost links settled : List ℕ) where
     abbrev LedBy : ℕ → ℕ → Type 0
     LedBy least v = is_candidate cost settled v ≡ true → Leads least v
 
-    passed_by : (held : Picked) → Holding bound held → is_candidate cost settled bound ≡ false → Holding (bound + 1) held
-    passed_by (Turn least) holding e =
+    passed_by : (held : Option TurnNumber) → Holding bound held → is_candidate cost settled bound ≡ false → Holding (bound + 1) held
+    passed_by (Some least) holding e =
         record {
           below = (let b = holding.below in omega arith);
           candidate = holding.candidate;
           leads = one_more bound (LedBy least.0) holding.leads (λ c. clash (cc));
         }
-    passed_by Nothing holding e = one_more bound (λ v. is_candidate cost settled v ≡ false) holding e
+    passed_by None holding e = one_more bound (λ v. is_candidate cost settled v ≡ false) holding e
 
-    taken_up : (held : Picked) → Holding bound held → is_candidate cost settled bound ≡ true → Holding (bound + 1) (with_candidate cost links turn held)
-    taken_up Nothing holding e =
+    taken_up : (held : Option TurnNumber) → Holding bound held → is_candidate cost settled bound ≡ true → Holding (bound + 1) (with_candidate cost links turn held)
+    taken_up None holding e =
         record {
           below = omega arith;
           candidate = e;
           leads = one_more bound (LedBy bound) (λ v h c. clash (cc (holding v h))) (λ c. inr (refl, omega arith));
         }
-    taken_up (Turn least) holding e = by (less_tri (key bound) (key least.0))
+    taken_up (Some least) holding e = by (less_tri (key bound) (key least.0))
       where
         stays : Leads least.0 bound → Foremost (bound + 1) least.0
         stays leads =
@@ -90,7 +89,7 @@ module _ (cost links settled : List ℕ) where
               leads = one_more bound (LedBy least.0) holding.leads (λ c. leads);
             }
 
-        by : Compared Less (key bound) (key least.0) → Holding (bound + 1) (with_candidate cost links turn (Turn least))
+        by : Compared Less (key bound) (key least.0) → Holding (bound + 1) (with_candidate cost links turn (Some least))
         by (inl l) =
             subst (Holding (bound + 1)) (sym (less_taken turn least l))
             (record {
@@ -101,16 +100,16 @@ module _ (cost links settled : List ℕ) where
         by (inr (inl same)) = subst (Holding (bound + 1)) (sym (alike_stays turn least same)) (stays (inr (sym same, (let b = holding.below in omega arith))))
         by (inr (inr l)) = subst (Holding (bound + 1)) (sym (lesser_stays turn least l)) (stays (inl l))
 
-    pub with_turn_lem : (held : Picked) → Holding bound held → Holding (bound + 1) (with_turn cost links settled turn held)
+    pub with_turn_lem : (held : Option TurnNumber) → Holding bound held → Holding (bound + 1) (with_turn cost links settled turn held)
     with_turn_lem held holding = by (is_candidate cost settled bound) refl
       where
         by : (test : Bool) → is_candidate cost settled bound ≡ test → Holding (bound + 1) (cond test (with_candidate cost links turn held) held)
         by true e = taken_up held holding e
         by false e = passed_by held holding e
 
-  pub all_passed : (held : Picked) → Holding (length cost) held → Picks cost links settled held
-  all_passed Nothing holding = holding
-  all_passed (Turn turn) holding =
+  pub all_passed : (held : Option TurnNumber) → Holding (length cost) held → Picks cost links settled held
+  all_passed None holding = holding
+  all_passed (Some turn) holding =
       record {
         within = holding.below;
         candidate = holding.candidate;

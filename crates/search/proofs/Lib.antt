@@ -21,6 +21,7 @@ pub mod Tested
 pub mod RouteLaws
 pub mod RouteRoom
 pub mod RouteAccounted
+pub mod DerivedOrder
 pub mod Determined
 pub mod NoRouteA
 pub mod SearchesRefused

@@ -10,15 +10,13 @@ use lib.Dec.{ltb, eqb}
 use lib.ListN.{get_or}
 use borrow.Author.Tests.{ltb-true, eqb-false, eq-eqb, ne_eqb}
 use Rattle.book.specs.declared.Counts.{Counts}
-use Rattle.book.specs.declared.Checked.TheVariants.{Good}
+use Rattle.std.specs.Prelude.{Ok, Some, Option}
 use Rattle.book.specs.Tables.{pair_table}
 use Rattle.book.specs.Entries.{barred, pair_second, pair_extra}
 use Rattle.book.specs.Check.{check_of}
 use Rattle.book.proofs.GoodBook.{GoodBook, good_book}
 use Rattle.book.proofs.Limits.{both}
 use Rattle.walk.specs.declared.Between.{Between}
-use Rattle.walk.specs.declared.Step.{Step}
-use Rattle.walk.specs.declared.Step.TheVariants.{Seconds}
 use Rattle.walk.specs.View.{View, view_with, found_or}
 use Rattle.walk.specs.Walks.{look_up, listed_as, carried_if, between, allowed, seconds}
 use Rattle.walk.specs.steps.Costs.{turn_cost}
@@ -37,11 +35,11 @@ unfolding step_to
 step_as U stands t = refl
 
 -- the seconds of a step that is not barred
-seconds_of : (goes : Bool) (cost : ℕ) {more : ℕ} → stepped goes cost ≡ Seconds more → (goes ≡ true) × (more ≡ cost)
+seconds_of : (goes : Bool) (cost : ℕ) {more : ℕ} → stepped goes cost ≡ Some more → (goes ≡ true) × (more ≡ cost)
 seconds_of true cost e = (refl, cc)
 seconds_of false cost e = clash (cc)
 
-module _ (book : List ℕ) (counts : Counts) (checked : check_of book ≡ Good counts) where
+module _ (book : List ℕ) (counts : Counts) (checked : check_of book ≡ Ok counts) where
   g : GoodBook book counts
   g = good_book book counts checked
 
@@ -68,8 +66,8 @@ module _ (book : List ℕ) (counts : Counts) (checked : check_of book ≡ Good c
       by false e = carried (ltb 0 before && ltb 0 after)
 
   -- a step adds less than 171,000 seconds, where it is not barred
-  adds_less : (walks : List ℕ) (t : ℕ) (stands : Between) {step : Step} {more : ℕ} → t < counts.turns → get_or walks t 0 < 65536 → (allowed stands ≡ true → seconds stands ≤ 3600)
-      → step ≡ step_to (view_with book counts walks) stands t → step ≡ Seconds more → more < 171000
+  adds_less : (walks : List ℕ) (t : ℕ) (stands : Between) {step : Option ℕ} {more : ℕ} → t < counts.turns → get_or walks t 0 < 65536 → (allowed stands ≡ true → seconds stands ≤ 3600)
+      → step ≡ step_to (view_with book counts walks) stands t → step ≡ Some more → more < 171000
   adds_less walks t stands {step} {more} listed small extra stepping adds =
       let U = view_with book counts walks in
       let (goes, same) = seconds_of (is_open U t && allowed stands) (seconds_more U (seconds stands) t) (sym (stepping ∙ step_as U stands t) ∙ adds) in
@@ -78,13 +76,13 @@ module _ (book : List ℕ) (counts : Counts) (checked : check_of book ≡ Good c
       omega arith
 
   -- found beside the followers
-  pub step_limit : (walks : List ℕ) (at to t before after : ℕ) {stands : Between} {step : Step} {more : ℕ} → to ≤ counts.pairs → t < counts.turns → get_or walks t 0 < 65536
-      → stands ≡ look_up (listed_at pairs at to t) counts.carry_over before after → step ≡ step_to (view_with book counts walks) stands t → step ≡ Seconds more → more < 171000
+  pub step_limit : (walks : List ℕ) (at to t before after : ℕ) {stands : Between} {step : Option ℕ} {more : ℕ} → to ≤ counts.pairs → t < counts.turns → get_or walks t 0 < 65536
+      → stands ≡ look_up (listed_at pairs at to t) counts.carry_over before after → step ≡ step_to (view_with book counts walks) stands t → step ≡ Some more → more < 171000
   step_limit walks at to t before after within listed small stood stepping adds = adds_less walks t _ listed small (λ a. rw stood (extra_limit at to t before after within)) stepping adds
 
   -- or looked up
-  pub looked_up_limit : (walks : List ℕ) (p t : ℕ) {stands : Between} {step : Step} {more : ℕ} → t < counts.turns → get_or walks t 0 < 65536
-      → stands ≡ between (view_with book counts walks) p t → step ≡ step_to (view_with book counts walks) stands t → step ≡ Seconds more → more < 171000
+  pub looked_up_limit : (walks : List ℕ) (p t : ℕ) {stands : Between} {step : Option ℕ} {more : ℕ} → t < counts.turns → get_or walks t 0 < 65536
+      → stands ≡ between (view_with book counts walks) p t → step ≡ step_to (view_with book counts walks) stands t → step ≡ Some more → more < 171000
   looked_up_limit walks p t listed small stood stepping adds = adds_less walks t _ listed small (λ a. rw stood (any-extra book counts checked walks p t (rw stood at a))) stepping adds
 
 -- what passing the label of turn p on to turn t does to the table

@@ -1,4 +1,5 @@
 -- What a turn offers a follower by its step is what the judge compares, and what a back that leads has offered.
+use Rattle.std.specs.Prelude.{None, Some, Option}
 use Prim.Native.Nat.{ℕ, ◌+◌, ◌≤◌, ◌<◌}
 use mathlib.Core.Path.{◌≡◌, refl, ◌∙◌}
 use mathlib.Core.Bool.{Bool, true, false, not, ◌&&◌, ◌||◌}
@@ -7,8 +8,6 @@ use lib.Dec.{leb}
 use borrow.Author.Tests.{leb-true, lt-ltb, eq-eqb, ne_eqb}
 use Rattle.book.proofs.Limits.{both}
 use Rattle.walk.specs.declared.Between.{Between}
-use Rattle.walk.specs.declared.Step.{Step}
-use Rattle.walk.specs.declared.Step.TheVariants.{Barred, Seconds}
 use Rattle.walk.specs.View.{View}
 use Rattle.walk.specs.Walks.{between, allowed, seconds}
 use Rattle.walk.specs.Labels.{Entry, Table, entry_at}
@@ -55,16 +54,16 @@ module _ (U : View) (p t : ℕ) where
   not_overtaken cost links turns apart = rw (ne_eqb _ _ apart)
 
 -- a turn's label is what its back offers exactly where it is what the step from there gives
-module _ (U : View) (turns : Table) (t : ℕ) (e before : Entry) (stands : Between) (step : Step) (within : e.back < U.turns) (same : before ≡ entry_at turns e.back) (small : limited before ≡ true)
+module _ (U : View) (turns : Table) (t : ℕ) (e before : Entry) (stands : Between) (step : Option ℕ) (within : e.back < U.turns) (same : before ≡ entry_at turns e.back) (small : limited before ≡ true)
     (meets : U.second e.back ≡ U.first t) (stood : stands ≡ between U e.back t) (stepping : step ≡ step_to U stands t) where
   by_step : stepped_by step before e ≡ back_leads U turns t e
   unfolding back_leads
   by_step = rw (lt-ltb _ _ within, stepping, stood, same, rw same at small) (stepped_at U e.back t (entry_at turns e.back) e refl meets)
 
-  pub leads_barred : step ≡ Barred → false ≡ back_leads U turns t e
+  pub leads_barred : step ≡ None → false ≡ back_leads U turns t e
   leads_barred barred = rw barred at by_step
 
-  pub leads_stepped : (more : ℕ) {answer : Bool} → step ≡ Seconds more → answer ≡ stands_as e (record { cost = before.cost + more; links = before.links + 1; back = e.back }) → answer ≡ back_leads U turns t e
+  pub leads_stepped : (more : ℕ) {answer : Bool} → step ≡ Some more → answer ≡ stands_as e (record { cost = before.cost + more; links = before.links + 1; back = e.back }) → answer ≡ back_leads U turns t e
   leads_stepped more adds told = told ∙ (rw adds at by_step)
 
 -- the tests of a reached turn, where e is its entry

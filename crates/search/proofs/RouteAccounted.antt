@@ -7,20 +7,17 @@ use native.Mathlib.Omega.{arith}
 use lib.ListN.{take, drop, length}
 use lib.Seq.{take_at}
 use Rattle.book.specs.declared.Counts.{Counts}
-use Rattle.book.specs.declared.Checked.TheVariants.{Good}
+use Rattle.std.specs.Prelude.{Ok}
 use Rattle.book.specs.Check.{check_of}
-use Rattle.walk.specs.declared.Costed.TheVariants.{Permitted}
 use Rattle.walk.specs.View.{View, view_of, walks_of}
 use Rattle.walk.specs.Walks.{permitted, cost_of, split_of}
 use Rattle.walk.specs.Labels.{Table, NodeWalk, stays, enters, Route}
-use Rattle.walk.specs.Given.{cost_of_walk}
+use Rattle.walk.specs.Given.{cost_of_walk, permitted_at}
 use Rattle.walk.proofs.theory.Laws.{clash}
 use Rattle.walk.proofs.GoodView.{good_view}
 use Rattle.walk.proofs.SplitLaws.{adds_up, given_costed, route_adds_up}
-use Rattle.search.specs.declared.Routed.{Routed}
-use Rattle.search.specs.declared.Routed.TheVariants.{Done}
 use Rattle.search.specs.Tests.{node_test, both_nodes}
-use Rattle.search.specs.Route.{no_walk, no_room, done, Routing, refused, untrue, onward}
+use Rattle.search.specs.Route.{no_walk, no_room, done, Routing, refused, untrue, onward, routed, RouteAnswer}
 use Rattle.search.specs.Accounted.{Accounted}
 use Rattle.search.proofs.Labelling.{few}
 use Rattle.search.proofs.Tested.{node_passed, length_passed}
@@ -32,17 +29,17 @@ goes U r s links (stays e here) = rw e refl
 goes U r s links (enters l walk to) = walk.goes
 
 -- what the cost of a given walk answers for the route of two nodes
-module _ (book : List ℕ) (r s : ℕ) (counts : Counts) (passed : both_nodes book r s ≡ Good counts) (links : List ℕ) (route : Route (view_of book counts) r s links) where
-  pub route_checked : check_of book ≡ Good counts
+module _ (book : List ℕ) (r s : ℕ) (counts : Counts) (passed : both_nodes book r s ≡ Ok counts) (links : List ℕ) (route : Route (view_of book counts) r s links) where
+  pub route_checked : check_of book ≡ Ok counts
   route_checked = (node_passed (check_of book) r counts (node_passed (node_test (check_of book) r) s counts passed).0).0
 
-  pub route_costed : cost_of_walk book r links ≡ Permitted (cost_of (view_of book counts) links) (split_of (view_of book counts) links)
+  pub route_costed : cost_of_walk book r links ≡ permitted_at (cost_of (view_of book counts) links) (split_of (view_of book counts) links)
   route_costed =
       let (origin, destination) = node_passed (node_test (check_of book) r) s counts passed in
       let (checked, node) = node_passed (check_of book) r counts origin in
       given_costed book r links counts checked node (omega (arith, (room_serves book r s counts checked links route).0)) (goes (view_of book counts) r s links route.walk)
 
-pub done_accounted : (book : List ℕ) (r s : ℕ) (turns links : Table) (buffer : List ℕ) (cost count : ℕ) (answer : Routed) (after : List ℕ) → answer ≡ Done cost count → Routing book r s turns links buffer answer after → Accounted book r links cost (take count after)
+pub done_accounted : (book : List ℕ) (r s : ℕ) (turns links : Table) (buffer : List ℕ) (cost count : ℕ) (answer : RouteAnswer) (after : List ℕ) → answer ≡ routed cost count → Routing book r s turns links buffer answer after → Accounted book r links cost (take count after)
 done_accounted book r s turns links buffer cost count answer after told (refused own e a b) = clash (cc (told, a))
 done_accounted book r s turns links buffer cost count answer after told (untrue own e false a b) = clash (cc (told, a))
 done_accounted book r s turns links buffer cost count answer after told (onward own e labels (no_walk none a b)) = clash (cc (told, a))

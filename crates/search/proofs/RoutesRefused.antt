@@ -18,10 +18,8 @@ use Rattle.walk.proofs.GoodView.{good_view}
 use Rattle.walk.proofs.CaseTests.{route_at, route_links, passes, claims_hold, differ, not_equal}
 use Rattle.walk.proofs.CasesHold.{cases_hold}
 use Rattle.walk.proofs.LabelledTrue.{view_in, given_true, cut_off_good, cut_off_true, by_the_last_good, by_the_last_true, right_alone}
-use Rattle.search.specs.declared.Routed.{Routed}
-use Rattle.search.specs.declared.Routed.TheVariants.{Done}
 use Rattle.search.specs.Tests.{node_test, fits, length_test}
-use Rattle.search.specs.Route.{route_given_back, no_walk, done, untrue, onward}
+use Rattle.search.specs.Route.{route_given_back, no_walk, done, untrue, onward, routed, RouteAnswer}
 use Rattle.search.specs.RefusedRoutes.{Outcome, Row, with_turn_three, no_walk_outcome, loop, to_three, to_one, to_nowhere, to_two, over_untrue, wrong_routes, Allows, Refused}
 use Rattle.search.proofs.Determined.{labels_one, route_determined}
 use Rattle.search.proofs.NoRouteA.{nowhere}
@@ -44,11 +42,11 @@ route_to_two =
 
 to_three_right : (claimed : Outcome) → Allows (to_three claimed) loop
 unfolding node_test fits length_test
-to_three_right claimed = onward counts_a (rw (book_a_good) refl) given_true (done _ route_to_three.route (omega arith) (ap (λ (cost : ℕ). Done cost 5) (sym route_to_three.costs)) refl)
+to_three_right claimed = onward counts_a (rw (book_a_good) refl) given_true (done _ route_to_three.route (omega arith) (ap (λ (cost : ℕ). routed cost 5) (sym route_to_three.costs)) refl)
 
 to_one_right : (claimed : Outcome) → Allows (to_one claimed) (to_one claimed).right
 unfolding node_test fits length_test
-to_one_right claimed = onward counts_a (rw (book_a_good) refl) given_true (done _ route_to_one.route (omega arith) (ap (λ (cost : ℕ). Done cost 1) (sym route_to_one.costs)) refl)
+to_one_right claimed = onward counts_a (rw (book_a_good) refl) given_true (done _ route_to_one.route (omega arith) (ap (λ (cost : ℕ). routed cost 1) (sym route_to_one.costs)) refl)
 
 to_nowhere_right : (claimed : Outcome) → Allows (to_nowhere claimed) no_walk_outcome
 unfolding node_test fits length_test
@@ -56,7 +54,7 @@ to_nowhere_right claimed = onward counts_a (rw (cut_off_good) refl) cut_off_true
 
 to_two_right : (claimed : Outcome) → Allows (to_two claimed) (to_two claimed).right
 unfolding node_test fits length_test
-to_two_right claimed = onward counts_a (rw (by_the_last_good) refl) by_the_last_true (done _ route_to_two.route (omega arith) (ap (λ (cost : ℕ). Done cost 1) (sym route_to_two.costs)) refl)
+to_two_right claimed = onward counts_a (rw (by_the_last_good) refl) by_the_last_true (done _ route_to_two.route (omega arith) (ap (λ (cost : ℕ). routed cost 1) (sym route_to_two.costs)) refl)
 
 abbrev turn_numbers : Table → List ℕ
 turn_numbers turns = turns.cost ++ (turns.links ++ turns.back)
@@ -67,7 +65,7 @@ untrue_labels : (third : Entry) → differ (turn_numbers (as_table (with_turn_th
 untrue_labels third h labels = not_equal _ _ h (ap turn_numbers (labels_one book_a counts_a book_a_good 0 _ _ _ _ labels given_true).0)
 
 -- the numbers that a route answers and leaves
-abbrev numbers_of : Routed → List ℕ → List ℕ
+abbrev numbers_of : RouteAnswer → List ℕ → List ℕ
 numbers_of answer buffer = (route_given_back answer).number ∷ (route_given_back answer).place ∷ (route_given_back answer).cost ∷ (route_given_back answer).links ∷ buffer
 
 abbrev numbers_in : Outcome → List ℕ

@@ -4,7 +4,7 @@ use mathlib.Core.Path.{◌≡◌, refl, subst}
 use mathlib.Core.List.{List, [], ◌∷◌, ◌++◌}
 use mathlib.Core.Bool.{true}
 use native.Mathlib.Omega.{arith}
-use Rattle.book.specs.declared.Checked.TheVariants.{Good}
+use Rattle.std.specs.Prelude.{Ok, Err, Some}
 use Rattle.book.specs.Check.{check_of, refusal}
 use Rattle.book.specs.BookA.{counts_a}
 use Rattle.book.proofs.BookA.{book_a_good}
@@ -16,17 +16,15 @@ use Rattle.walk.proofs.KeyLaws.{less_irrefl}
 use Rattle.walk.proofs.SheetsRefused.{sheets_refused}
 use Rattle.walk.proofs.CaseTests.{differ}
 use Rattle.walk.proofs.LabelledTrue.{given_true, right_alone}
-use Rattle.search.specs.declared.Searched.{Searched}
-use Rattle.search.specs.declared.Searched.TheVariants.{Done, Refused as SearchRefused}
-use Rattle.search.specs.declared.Picked.TheVariants.{Turn}
 use Rattle.search.specs.Tests.{node_test, fits, length_test}
-use Rattle.search.specs.Search.{search_given_back, refused, done}
+use Rattle.search.specs.Search.{search_given_back, refused, done, Searched}
 use Rattle.search.specs.RefusedSearches.{Outcome, Row, leaving, unlabelled, without_the_first, of_book_a, with_turn_too_many, wrong_searches, Allows, Refused, OfAlike, FirstOfAlike}
 use Rattle.search.specs.steps.Picking.{key_at}
 use Rattle.search.proofs.Determined.{search_determined}
+use Rattle.book.specs.declared.Refusal.TheVariants.{LabelLength, NoNode}
 
 -- the book of the tenth sheet
-diamond_good : check_of diamond ≡ Good counts_of_diamond
+diamond_good : check_of diamond ≡ Ok counts_of_diamond
 diamond_good = sheets_refused.1.1.1.1.1.1.1.1.1.0.0
 
 book_a_right : (claimed : Outcome) → Allows (of_book_a claimed) (leaving Done given)
@@ -35,7 +33,7 @@ book_a_right claimed = done counts_a (rw (book_a_good) refl) refl given_true
 
 turn_too_many_right : (claimed : Outcome) → Allows (with_turn_too_many claimed) (with_turn_too_many claimed).right
 unfolding node_test fits length_test
-turn_too_many_right claimed = refused (refusal 12 0) (rw (diamond_good) refl) refl refl refl
+turn_too_many_right claimed = refused LabelLength (rw (diamond_good) refl) refl refl refl
 
 -- the numbers that a search answers and leaves
 abbrev numbers_of : Searched → Table → Table → List ℕ
@@ -62,7 +60,7 @@ turn_too_many_refused claimed = row_refused (with_turn_too_many claimed) (turn_t
 -- none of the wrong outcomes is allowed, and the right one is
 pub searches_refused : (anything : Labelled) → All Refused (wrong_searches anything)
 searches_refused anything =
-    let refused-always = book_a_refused (leaving (SearchRefused (refusal 10 0)) unlabelled) refl in
+    let refused-always = book_a_refused (leaving (Err NoNode) unlabelled) refl in
     let said-only = book_a_refused (leaving Done unlabelled) refl in
     let first-passed-over = book_a_refused (leaving Done without_the_first) refl in
     let measured-by-links = turn_too_many_refused (leaving Done anything) refl in
@@ -77,7 +75,7 @@ same_key (suc (suc v)) h = absurd (omega arith)
 pub first_of_alike : FirstOfAlike
 first_of_alike = (first, λ later. less_irrefl _ (later.first 0 (omega arith) refl))
   where
-    first : OfAlike (Turn (record { 0 = 0 }))
+    first : OfAlike (Some (record { 0 = 0 }))
     first =
         record {
           within = omega arith;

@@ -95,7 +95,7 @@ unfolding goes_ahead
 ahead_of_none new h = rw (lt-ltb new.cost no_entry.cost h)
 
 -- the state between two picks
-pub record Underway (U : View) (r : ℕ) (table : Table) (marks : List ℕ) : Type 0 where
+pub record Underway (U : View) (r : ℕ) (table : Table) (marks : List Bool) : Type 0 where
   pub sized : Sized U.turns table
   pub marked : length marks ≡ U.turns
   pub inside : Settling Key (net U r) (is_settled marks) (λ t. reading (entry_at table t))
@@ -167,9 +167,9 @@ module _ (U : View) (limited : Limited U) (good : GoodView U) (few : U.turns < s
   reached_labelled done e (labelled a b c d) h = (cc (reading_labelled e a), a, b, c)
 
   -- a candidate is an entry that is reached and not settled
-  candidate_labelled : (table : Table) (marks : List ℕ) (t : ℕ) → Fine (settled_count marks) (entry_at table t) → is_candidate table.cost marks t ≡ true → 2 ≤ (entry_at table t).links
+  candidate_labelled : (table : Table) (marks : List Bool) (t : ℕ) → Fine (settled_count marks) (entry_at table t) → is_candidate table.cost marks t ≡ true → 2 ≤ (entry_at table t).links
   candidate_labelled table marks t (none_yet z) h =
-      let (open_mark, some-cost) = both (eqb (get_or marks t 0) 0) (not (eqb (get_or table.cost t 0) no_entry.cost)) h in
+      let (open_mark, some-cost) = both (not (get_or marks t false)) (not (eqb (get_or table.cost t 0) no_entry.cost)) h in
       absurd (eqb-false _ _ (not-true _ some-cost) (ap (λ (e : Entry). e.cost) z))
   candidate_labelled table marks t (labelled a b c d) h = a
 
@@ -192,25 +192,25 @@ module _ (U : View) (limited : Limited U) (good : GoodView U) (few : U.turns < s
           labelled (omega arith) (omega arith) (omega (arith, limited.link (U.first t) (good.first t h), limited.turn t h o)) (inl (refl, refl))
       by false e = none_yet refl
 
-  pub begun : Underway U r (table_up_to U.turns (start_entry U r)) (replicate U.turns 0)
+  pub begun : Underway U r (table_up_to U.turns (start_entry U r)) (replicate U.turns false)
   begun =
       record {
         sized = up_to_sized U.turns (start_entry U r);
-        marked = length-replicate U.turns 0;
+        marked = length-replicate U.turns false;
         inside = subst (λ (S : ℕ → Bool). Settling Key (net U r) S tab) (λ i t. sym (none_settled U.turns t) i) (settle_start Key (net U r) (laws U good r) tab (λ t h. ap reading (up_to_entry U.turns (start_entry U r) t h) ∙ start_reading t));
-        fine = λ t h. subst (Fine (settled_count (replicate {A = ℕ} U.turns 0))) (sym (up_to_entry U.turns (start_entry U r) t h)) (subst (λ (n : ℕ). Fine n (start_entry U r t)) (sym (count_none U.turns)) (start_fine t h));
+        fine = λ t h. subst (Fine (settled_count (replicate {A = Bool} U.turns false))) (sym (up_to_entry U.turns (start_entry U r) t h)) (subst (λ (n : ℕ). Fine n (start_entry U r t)) (sym (count_none U.turns)) (start_fine t h));
       }
     where
       tab : ℕ → Reached Key
       tab t = reading (entry_at (table_up_to U.turns (start_entry U r)) t)
 
   -- one turn settled
-  module _ (table : Table) (marks : List ℕ) (way : Underway U r table marks) (u : ℕ) (next : LeastOf table.cost table.links marks u) where
+  module _ (table : Table) (marks : List Bool) (way : Underway U r table marks) (u : ℕ) (next : LeastOf table.cost table.links marks u) where
     within : u < U.turns
     within = omega (arith, next.within, way.sized.cost)
 
-    open_mark : get_or marks u 0 ≡ 0
-    open_mark = eqb-true _ _ (both (eqb (get_or marks u 0) 0) (not (eqb (get_or table.cost u 0) no_entry.cost)) next.candidate).0
+    open_mark : get_or marks u false ≡ false
+    open_mark = not-true _ (both (not (get_or marks u false)) (not (eqb (get_or table.cost u 0) no_entry.cost)) next.candidate).0
 
     two_links : 2 ≤ (entry_at table u).links
     two_links = candidate_labelled table marks u (way.fine u within) next.candidate
@@ -220,11 +220,11 @@ module _ (U : View) (limited : Limited U) (good : GoodView U) (few : U.turns < s
         let (_, _, l, c) = reached_labelled (settled_count marks) (entry_at table u) (way.fine u within) (reading_labelled (entry_at table u) two_links) in
         (l, c)
 
-    pub more_done : settled_count (set marks u 1) ≡ suc (settled_count marks)
+    pub more_done : settled_count (set marks u true) ≡ suc (settled_count marks)
     more_done = count_more marks u (omega (arith, way.marked, within)) open_mark
 
     few_settled : settled_count marks < 4096
-    few_settled = omega (arith, more_done, count_within (set marks u 1), length-set marks u 1, way.marked, limited.turns)
+    few_settled = omega (arith, more_done, count_within (set marks u true), length-set marks u true, way.marked, limited.turns)
 
     -- what the code needs of the picked label
     pub label_limits : StepFits (entry_at table u).cost (entry_at table u).links
@@ -233,33 +233,33 @@ module _ (U : View) (limited : Limited U) (good : GoodView U) (few : U.turns < s
     least : (v : ℕ) (k : Key) (b : Back) → v < U.turns → (T (is_settled marks v) → ⊥) → reading (entry_at table v) ≡ reached k b → Less k (key_of (entry_at table u)) → ⊥
     least v k b h unsettled e less =
         let (same, two, links-most, cost_most) = reached_labelled (settled_count marks) (entry_at table v) (way.fine v h) e in
-        let open-v : eqb (get_or marks v 0) 0 ≡ true = unmarked (eqb (get_or marks v 0) 0) unsettled in
+        let open-v : not (get_or marks v false) ≡ true = unmarked (get_or marks v false) unsettled in
         let some-v : not (eqb (get_or table.cost v 0) no_entry.cost) ≡ true = rw (ne_eqb (get_or table.cost v 0) no_entry.cost (λ z. omega (arith, cost_most, few_settled))) in
         next.least v (omega (arith, way.sized.cost)) (and_true open-v some-v) (subst (λ (x : Key). Less x (key_of (entry_at table u))) same less)
       where
-        unmarked : (test : Bool) → (T (not test) → ⊥) → test ≡ true
-        unmarked true n = refl
-        unmarked false n = absurd (n tt)
+        unmarked : (test : Bool) → (T test → ⊥) → not test ≡ true
+        unmarked true n = absurd (n tt)
+        unmarked false n = refl
 
-    pub settled_one : Underway U r (table_up_to U.turns (λ t. passed_to U u (entry_at table u).cost (entry_at table u).links (entry_at table t) t)) (set marks u 1)
+    pub settled_one : Underway U r (table_up_to U.turns (λ t. passed_to U u (entry_at table u).cost (entry_at table u).links (entry_at table t) t)) (set marks u true)
     settled_one =
         record {
           sized = up_to_sized U.turns passed;
-          marked = length-set marks u 1 ∙ way.marked;
+          marked = length-set marks u true ∙ way.marked;
           inside =
               settle_step Key (net U r) (laws U good r) ahead (tested_ahead U r) (is_settled marks) (λ t. reading (entry_at table t)) way.inside u (key_of (entry_at table u)) (back_of (entry_at table u)) within
               unsettled (reading_labelled (entry_at table u) two_links) least
-              (is_settled (set marks u 1)) (λ t. reading (entry_at (table_up_to U.turns passed) t))
+              (is_settled (set marks u true)) (λ t. reading (entry_at (table_up_to U.turns passed) t))
               (λ t. (λ h. again (settled_more marks u t (holds _ h)), λ h. shown (settled_kept marks u t marked_within (once h))))
               (λ t h. ap reading (up_to_entry U.turns passed t h) ∙ passed_reading u (entry_at table u) (settled_count marks) within few_settled two_links label.0 label.1 t (entry_at table t) h (way.fine t h));
-          fine = λ t h. subst (Fine (settled_count (set marks u 1))) (sym (up_to_entry U.turns passed t h)) (subst (λ (n : ℕ). Fine n (passed t)) (sym more_done) (passed_fine u (entry_at table u) (settled_count marks) within few_settled two_links label.0 label.1 t (entry_at table t) h (way.fine t h)));
+          fine = λ t h. subst (Fine (settled_count (set marks u true))) (sym (up_to_entry U.turns passed t h)) (subst (λ (n : ℕ). Fine n (passed t)) (sym more_done) (passed_fine u (entry_at table u) (settled_count marks) within few_settled two_links label.0 label.1 t (entry_at table t) h (way.fine t h)));
         }
       where
         passed : ℕ → Entry
         passed t = passed_to U u (entry_at table u).cost (entry_at table u).links (entry_at table t) t
 
         unsettled : T (is_settled marks u) → ⊥
-        unsettled h = subst T (ap (λ (n : ℕ). not (eqb n 0)) open_mark) h
+        unsettled h = subst T open_mark h
 
         marked_within : u < length marks
         marked_within = omega (arith, way.marked, within)
@@ -273,7 +273,7 @@ module _ (U : View) (limited : Limited U) (good : GoodView U) (few : U.turns < s
         once (inr h) = inr h
 
   -- at the end
-  pub all_settled : (table : Table) (marks : List ℕ) → Underway U r table marks → ((v : ℕ) → v < length table.cost → is_candidate table.cost marks v ≡ false) → TrueTable U.turns (TrueTurn U r) table
+  pub all_settled : (table : Table) (marks : List Bool) → Underway U r table marks → ((v : ℕ) → v < length table.cost → is_candidate table.cost marks v ≡ false) → TrueTable U.turns (TrueTurn U r) table
   all_settled table marks way none_left =
       record {
         costs = way.sized.cost;
@@ -287,8 +287,8 @@ module _ (U : View) (limited : Limited U) (good : GoodView U) (few : U.turns < s
           let (same, two, links-most, cost_most) = reached_labelled (settled_count marks) (entry_at table t) (way.fine t h) e in
           let few-marks = count_within marks in
           let some-t : not (eqb (get_or table.cost t 0) no_entry.cost) ≡ true = rw (ne_eqb (get_or table.cost t 0) no_entry.cost (λ z. omega (arith, cost_most, few-marks, way.marked, limited.turns))) in
-          by (eqb (get_or marks t 0) 0) (rw some-t at (none_left t (omega (arith, way.sized.cost))))
+          by (get_or marks t false) (rw some-t at (none_left t (omega (arith, way.sized.cost))))
         where
-          by : (test : Bool) → (test && true) ≡ false → T (not test)
-          by true z = clash (cc)
-          by false z = tt
+          by : (test : Bool) → (not test && true) ≡ false → T test
+          by true z = tt
+          by false z = clash (cc)

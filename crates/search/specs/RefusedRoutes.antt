@@ -1,16 +1,14 @@
 -- Document 01, "How far the contracts go": what a wrong route from 0 would answer and leave, on book A.
-use Rattle.std.specs.Prelude.{ℕ, List, [], ◌∷◌}
-use Rattle.book.specs.Check.{refusal}
+use Rattle.std.specs.Prelude.{ℕ, List, [], ◌∷◌, Err}
 use Rattle.walk.specs.Labels.{Entry, start_back}
 use Rattle.walk.specs.Cases.{entry}
 use Rattle.walk.specs.Labelled.{Labelled, as_table, given, cut_off, by_the_last, RightAlone}
-use Rattle.search.specs.declared.Routed.{Routed}
-use Rattle.search.specs.declared.Routed.TheVariants.{Done, Refused as RouteRefused}
-use Rattle.search.specs.Route.{Routing}
+use Rattle.search.specs.Route.{Routing, routed, RouteAnswer}
+use Rattle.book.specs.declared.Refusal.TheVariants.{NoWalk, UntrueLabel}
 
 -- an answer, and the route buffer afterwards
 pub record Outcome : Type 0 where
-  pub answer : Routed
+  pub answer : RouteAnswer
   pub buffer : List ℕ
 
 -- a route from 0 over a book and its labels, with room for six links: what is right and what is claimed
@@ -23,7 +21,7 @@ pub record Row : Type 0 where
 abbrev pub room : List ℕ
 room = 9 ∷ 9 ∷ 9 ∷ 9 ∷ 9 ∷ 9 ∷ []
 
-abbrev pub leaving : Routed → List ℕ → Outcome
+abbrev pub leaving : RouteAnswer → List ℕ → Outcome
 leaving answer buffer = record { answer = answer; buffer = buffer }
 
 -- labels of book A that are true but for turn 3's: another back, or another number of links
@@ -42,17 +40,17 @@ abbrev pub another_number : Labelled
 another_number = with_turn_three (entry 207 3 2)
 
 abbrev pub no_walk_outcome : Outcome
-no_walk_outcome = leaving (RouteRefused (refusal 14 0)) room
+no_walk_outcome = leaving (Err NoWalk) room
 
 -- the loop of P3
 abbrev pub loop : Outcome
-loop = leaving (Done 342 5) (0 ∷ 1 ∷ 3 ∷ 1 ∷ 2 ∷ 9 ∷ [])
+loop = leaving (routed 342 5) (0 ∷ 1 ∷ 3 ∷ 1 ∷ 2 ∷ 9 ∷ [])
 
 abbrev pub to_three : Outcome → Row
 to_three claimed = record { asked = given; destination = 3; right = loop; claimed = claimed }
 
 abbrev pub to_one : Outcome → Row
-to_one claimed = record { asked = given; destination = 1; right = leaving (Done 40 1) (0 ∷ 9 ∷ 9 ∷ 9 ∷ 9 ∷ 9 ∷ []); claimed = claimed }
+to_one claimed = record { asked = given; destination = 1; right = leaving (routed 40 1) (0 ∷ 9 ∷ 9 ∷ 9 ∷ 9 ∷ 9 ∷ []); claimed = claimed }
 
 -- turns 3 and 4 are closed, as in P6
 abbrev pub to_nowhere : Outcome → Row
@@ -60,10 +58,10 @@ to_nowhere claimed = record { asked = cut_off; destination = 3; right = no_walk_
 
 -- turn 0 is closed
 abbrev pub to_two : Outcome → Row
-to_two claimed = record { asked = by_the_last; destination = 2; right = leaving (Done 403 1) (4 ∷ 9 ∷ 9 ∷ 9 ∷ 9 ∷ 9 ∷ []); claimed = claimed }
+to_two claimed = record { asked = by_the_last; destination = 2; right = leaving (routed 403 1) (4 ∷ 9 ∷ 9 ∷ 9 ∷ 9 ∷ 9 ∷ []); claimed = claimed }
 
 abbrev pub over_untrue : Labelled → Outcome → Row
-over_untrue asked claimed = record { asked = asked; destination = 3; right = leaving (RouteRefused (refusal 13 0)) room; claimed = claimed }
+over_untrue asked claimed = record { asked = asked; destination = 3; right = leaving (Err UntrueLabel) room; claimed = claimed }
 
 abbrev pub wrong_routes : ℕ → List ℕ → List Row
 wrong_routes any-cost any-buffer =
@@ -76,16 +74,16 @@ wrong_routes any-cost any-buffer =
     ∷ to_one loop
     ∷ to_nowhere loop
     -- a neat line over the closed change, at any cost
-    ∷ to_nowhere (leaving (Done any-cost 2) any-buffer)
+    ∷ to_nowhere (leaving (routed any-cost 2) any-buffer)
     -- one that judges labels by their costs
-    ∷ over_untrue another_back (leaving (Done 342 5) any-buffer)
-    ∷ over_untrue another_number (leaving (Done 342 5) any-buffer)
+    ∷ over_untrue another_back (leaving (routed 342 5) any-buffer)
+    ∷ over_untrue another_number (leaving (routed 342 5) any-buffer)
     -- the loop's cost beside another walk, and beside the loop with its first link a place late, or in the other direction
-    ∷ to_three (leaving (Done 342 5) (4 ∷ 2 ∷ 9 ∷ 9 ∷ 9 ∷ 9 ∷ []))
-    ∷ to_three (leaving (Done 342 5) (9 ∷ 0 ∷ 3 ∷ 1 ∷ 2 ∷ 9 ∷ []))
-    ∷ to_three (leaving (Done 342 5) (2 ∷ 1 ∷ 3 ∷ 1 ∷ 0 ∷ 9 ∷ []))
+    ∷ to_three (leaving (routed 342 5) (4 ∷ 2 ∷ 9 ∷ 9 ∷ 9 ∷ 9 ∷ []))
+    ∷ to_three (leaving (routed 342 5) (9 ∷ 0 ∷ 3 ∷ 1 ∷ 2 ∷ 9 ∷ []))
+    ∷ to_three (leaving (routed 342 5) (2 ∷ 1 ∷ 3 ∷ 1 ∷ 0 ∷ 9 ∷ []))
     -- the loop, and a number written behind it
-    ∷ to_three (leaving (Done 342 5) (0 ∷ 1 ∷ 3 ∷ 1 ∷ 2 ∷ 0 ∷ []))
+    ∷ to_three (leaving (routed 342 5) (0 ∷ 1 ∷ 3 ∷ 1 ∷ 2 ∷ 0 ∷ []))
     ∷ []
 
 -- the contract allows an outcome of the row's route

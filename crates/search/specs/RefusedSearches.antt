@@ -1,16 +1,13 @@
 -- Document 01, "How far the contracts go": what a wrong search from 0 would answer and leave.
-use Rattle.std.specs.Prelude.{List, [], ◌∷◌}
-use Rattle.book.specs.Check.{refusal}
+use Rattle.std.specs.Prelude.{List, false, [], ◌∷◌, Ok, Err, Some, Option}
 use Rattle.walk.specs.Labels.{Entry, no_entry, start_back}
 use Rattle.walk.specs.Cases.{entry}
 use Rattle.walk.specs.RefusedSheets.{diamond}
 use Rattle.walk.specs.Labelled.{Labelled, as_table, given, RightAlone}
-use Rattle.search.specs.declared.Searched.{Searched}
-use Rattle.search.specs.declared.Searched.TheVariants.{Done, Refused as SearchRefused}
-use Rattle.search.specs.Search.{Search}
-use Rattle.search.specs.declared.Picked.{Picked}
-use Rattle.search.specs.declared.Picked.TheVariants.{Turn}
+use Rattle.search.specs.Search.{Search, Searched}
 use Rattle.search.specs.steps.Picking.{Picks}
+use Rattle.book.specs.declared.Refusal.TheVariants.{LabelLength, NoNode}
+use Rattle.book.specs.declared.TurnNumber.{TurnNumber}
 
 -- an answer, and the label entries afterwards
 pub record Outcome : Type 0 where
@@ -49,21 +46,21 @@ abbrev pub turn_too_many : Labelled
 turn_too_many = record { book = diamond; turns = five_unreached; links = five_unreached }
 
 abbrev pub of_book_a : Outcome → Row
-of_book_a claimed = record { lent = unlabelled; right = leaving Done given; claimed = claimed }
+of_book_a claimed = record { lent = unlabelled; right = leaving (Ok tt) given; claimed = claimed }
 
 abbrev pub with_turn_too_many : Outcome → Row
-with_turn_too_many claimed = record { lent = turn_too_many; right = leaving (SearchRefused (refusal 12 0)) turn_too_many; claimed = claimed }
+with_turn_too_many claimed = record { lent = turn_too_many; right = leaving (Err LabelLength) turn_too_many; claimed = claimed }
 
 abbrev pub wrong_searches : Labelled → List Row
 wrong_searches anything =
     -- one that always refuses
-    of_book_a (leaving (SearchRefused (refusal 10 0)) unlabelled)
+    of_book_a (leaving (Err NoNode) unlabelled)
     -- one that only says that it is done
-    ∷ of_book_a (leaving Done unlabelled)
+    ∷ of_book_a (leaving (Ok tt) unlabelled)
     -- one that never settles turn 0
-    ∷ of_book_a (leaving Done without_the_first)
+    ∷ of_book_a (leaving (Ok tt) without_the_first)
     -- one that measures the turns' buffers by the book's count of links
-    ∷ with_turn_too_many (leaving Done anything)
+    ∷ with_turn_too_many (leaving (Ok tt) anything)
     ∷ []
 
 -- the contract allows an outcome of the row's search
@@ -74,9 +71,9 @@ abbrev pub Refused : Row → Type 0
 Refused row = RightAlone (Allows row) row.right row.claimed
 
 -- which turn is settled next where two are alike in cost and links
-abbrev pub OfAlike : Picked → Type 0
-OfAlike picked = Picks (90 ∷ 90 ∷ []) (2 ∷ 2 ∷ []) (0 ∷ 0 ∷ []) picked
+abbrev pub OfAlike : Option TurnNumber → Type 0
+OfAlike picked = Picks (90 ∷ 90 ∷ []) (2 ∷ 2 ∷ []) (false ∷ false ∷ []) picked
 
 -- the contract of a pick allows the first, and not the later one
 abbrev pub FirstOfAlike : Type 0
-FirstOfAlike = OfAlike (Turn (record { 0 = 0 })) × (OfAlike (Turn (record { 0 = 1 })) → ⊥)
+FirstOfAlike = OfAlike (Some (record { 0 = 0 })) × (OfAlike (Some (record { 0 = 1 })) → ⊥)

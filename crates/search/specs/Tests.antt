@@ -1,14 +1,13 @@
 -- Document 01, "Numbers given back": tests 10 and 12, each after what the earlier tests answered.
-use Rattle.std.specs.Prelude.{ℕ, List, Bool, ◌&&◌, ltb, eqb, length}
-use Rattle.book.specs.declared.Checked.{Checked}
-use Rattle.book.specs.declared.Checked.TheVariants.{Good, Refused}
-use Rattle.book.specs.Check.{check_of, refusal, unless}
+use Rattle.std.specs.Prelude.{ℕ, List, Bool, ◌&&◌, ltb, eqb, length, Ok, Err}
+use Rattle.book.specs.Check.{Checked, check_of, unless}
 use Rattle.walk.specs.Labels.{Table}
+use Rattle.book.specs.declared.Refusal.TheVariants.{LabelLength, NoNode}
 
 -- 10: the origin, or the destination, is no node
 unfoldable pub node_test : Checked → ℕ → Checked
-node_test (Refused found) node = Refused found
-node_test (Good counts) node = unless (ltb node counts.nodes) (refusal 10 0) (Good counts)
+node_test (Err found) node = Err found
+node_test (Ok counts) node = unless (ltb node counts.nodes) NoNode (Ok counts)
 
 -- 10: origin and destination
 abbrev pub both_nodes : List ℕ → ℕ → ℕ → Checked
@@ -20,5 +19,5 @@ fits count table = eqb (length table.cost) count && (eqb (length table.links) co
 
 -- 12: a label buffer has another length
 unfoldable pub length_test : Checked → Table → Table → Checked
-length_test (Refused found) turns links = Refused found
-length_test (Good counts) turns links = unless (fits counts.turns turns && fits counts.links links) (refusal 12 0) (Good counts)
+length_test (Err found) turns links = Err found
+length_test (Ok counts) turns links = unless (fits counts.turns turns && fits counts.links links) LabelLength (Ok counts)

@@ -1,69 +1,37 @@
 // The links' entries in one pass over the turns.
-ghost use Rattle.std.specs.Prelude.{◌≡◌, ◌<◌, length};
-ghost use Rattle.book.specs.declared.Checked.TheVariants.{Good};
-ghost use Rattle.book.specs.Tables.{turn_table};
-ghost use Rattle.book.specs.Entries.{turn_second};
-ghost use Rattle.book.specs.Check.{check_of};
-ghost use Rattle.walk.specs.Labels.{three};
+ghost use Rattle.std.specs.Prelude.{◌≡◌, ◌<◌};
+ghost use Rattle.walk.specs.View.{view_in};
+ghost use Rattle.search.specs.Lent.{labels_in, table_in, SameBuffers};
 ghost use Rattle.search.specs.steps.Tables.{Sized};
 ghost use Rattle.search.specs.steps.Ends.{ended_once, ended_by};
 
 use super::figures::UNREACHED;
-use super::labels::{offer, own_label};
-use book::{Counts, TurnNumber};
-use walk::turn_second;
+use super::{Labels, LabelsMut};
+use book::TurnNumber;
+use walk::Viewed;
 
 // The turn, where it is reached, offers its figures to the link that it ends with.
-fn end_turn(
-    book: &[u8],
-    counts: Counts,
-    turn_cost: &[u32],
-    turn_links: &[u16],
-    turn: TurnNumber,
-    cost: &mut [u32],
-    links: &mut [u16],
-    back: &mut [u16],
-)
-    requires book_value { (check_of book.now ≡ Good counts) × (length turn_cost.now ≡ counts.turns) × (length turn_links.now ≡ counts.turns) }
-    requires turn_lt_turns { turn.0 < counts.turns }
-    requires sized { Sized counts.links (three cost.old links.old back.old) }
-    ensures { three cost.new links.new back.new ≡ ended_once (turn_second (turn_table book.now counts)) turn_cost.now turn_links.now turn.0 (three cost.old links.old back.old) }
+fn end_turn(view: Viewed<'_>, turns: Labels<'_>, turn: TurnNumber, links: &mut LabelsMut<'_>)
+    requires turns_sized { Sized view.book.counts.turns (labels_in turns) × (turn.0 < view.book.counts.turns) }
+    requires links_sized { Sized view.book.counts.links (table_in links.old) }
+    ensures ended { table_in links.new ≡ ended_once (view_in view.entry).second turns.entry.cost.now turns.entry.links.now turn.0 (table_in links.old) }
+    ensures same { SameBuffers links.old links.new }
 {
-    if turn_cost[turn.0 as usize] == UNREACHED {
+    if turns.cost[turn.0 as usize] == UNREACHED {
         return;
     }
-    let link = turn_second(book, counts, turn);
-    let label = own_label(turn_cost, turn_links, turn.0);
-    offer(cost, links, back, link.0 as usize, label);
+    let link = view.turn_second(turn);
+    links.offer(link.0 as usize, turns.own(turn.0));
 }
 
 // Each reached turn offers its figures to the link that it ends with.
-pub fn end_turns(
-    book: &[u8],
-    counts: Counts,
-    turn_cost: &[u32],
-    turn_links: &[u16],
-    cost: &mut [u32],
-    links: &mut [u16],
-    back: &mut [u16],
-)
-    requires book_value { (check_of book.now ≡ Good counts) × (length turn_cost.now ≡ counts.turns) × (length turn_links.now ≡ counts.turns) }
-    requires sized { Sized counts.links (three cost.old links.old back.old) }
-    ensures { three cost.new links.new back.new ≡ ended_by (turn_second (turn_table book.now counts)) turn_cost.now turn_links.now counts.turns (three cost.old links.old back.old) }
+pub fn end_turns(view: Viewed<'_>, turns: Labels<'_>, links: &mut LabelsMut<'_>)
+    requires turns_sized { Sized view.book.counts.turns (labels_in turns) }
+    requires links_sized { Sized view.book.counts.links (table_in links.old) }
+    ensures ended { table_in links.new ≡ ended_by (view_in view.entry).second turns.entry.cost.now turns.entry.links.now view.entry.book.counts.turns (table_in links.old) }
+    ensures same { SameBuffers links.old links.new }
 {
-    let turns = counts.turns;
-    let mut turn: u16 = 0;
-    'turns: while (turn as usize) < turns {
-        end_turn(
-            book,
-            counts,
-            turn_cost,
-            turn_links,
-            TurnNumber(turn),
-            cost,
-            links,
-            back,
-        );
-        turn += 1;
+    for turn in 0..view.book.counts.turns as u16 {
+        end_turn(view, turns, TurnNumber(turn), links);
     }
 }

@@ -1,16 +1,15 @@
 // Search: the labels of every turn and every link from one origin, and the routes that are read from them.
 #![tactic(auto)]
 
-use book::{LinkNumber, Refusal, TurnNumber};
+use book::LinkNumber;
 
 mod arriving;
 mod ends;
+mod entries;
 mod figures;
 mod judging;
 mod judging_links;
 mod judging_turns;
-mod labels;
-mod offered;
 mod passing;
 mod picking;
 mod routing;
@@ -23,46 +22,48 @@ mod tracing;
 pub use arriving::best_into;
 pub use figures::ROUTE_ROOM;
 pub use judging::labels_true;
-pub use labels::{label_at, same_label};
-pub use offered::{check, cost_of, link_line, number_at, seconds_good, split_in, write_walk};
 pub use routing::{route, route_given_back};
 pub use searching::{given_back, search};
 pub use tests::{length_test, node_test};
+pub use walk::{check, cost_of, link_line, number_at, seconds_good, split_in, write_walk};
 
 // Cost, number of links and back of one entry.
-#[derive(Clone, Copy)]
+#[derive(Clone, Copy, PartialEq, Eq, PartialOrd, Ord)]
 pub struct Label {
     pub cost: u32,
     pub links: u16,
     pub back: u16,
 }
 
-// The turn to settle next.
+// A table's three buffers, lent for reading: one number of each an entry.
 #[derive(Clone, Copy)]
-pub enum Picked {
-    Turn(TurnNumber),
-    Nothing,
+pub struct Labels<'a> {
+    pub cost: &'a [u32],
+    pub links: &'a [u16],
+    pub back: &'a [u16],
+}
+
+// A table's three buffers, lent to be written.
+#[derive(Drop)]
+pub struct LabelsMut<'a> {
+    pub cost: &'a mut [u32],
+    pub links: &'a mut [u16],
+    pub back: &'a mut [u16],
 }
 
 // The last link, cost and number of links of the best way into a destination.
 #[derive(Clone, Copy)]
-pub enum Arrival {
-    By(LinkNumber, u32, u16),
-    Nothing,
+pub struct Arrival {
+    pub link: LinkNumber,
+    pub cost: u32,
+    pub links: u16,
 }
 
-// What a search answers: every entry is written, or a test refuses and nothing is.
+// Cost and number of links of the chosen walk.
 #[derive(Clone, Copy)]
-pub enum Searched {
-    Done,
-    Refused(Refusal),
-}
-
-// What a route answers: cost and number of links of the chosen walk, or a refusal.
-#[derive(Clone, Copy)]
-pub enum Routed {
-    Done(u32, u16),
-    Refused(Refusal),
+pub struct Routed {
+    pub cost: u32,
+    pub links: u16,
 }
 
 // An answer's number, place, cost and number of links.

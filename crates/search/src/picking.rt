@@ -5,67 +5,71 @@ ghost use Rattle.walk.specs.steps.Rows.{key_less};
 ghost use Rattle.search.specs.steps.Picking.{is_candidate, key_at, Picks};
 ghost use Rattle.search.specs.steps.LeastSoFar.{lesser, with_turn, HeldBelow};
 
-use super::Picked;
+use super::Labels;
 use super::figures::UNREACHED;
 use book::TurnNumber;
 
-// Whether a turn is reached and not settled.
-fn is_candidate(cost: &[u32], settled: &[u8], turn: TurnNumber) -> bool
-    requires { (turn.0 < length cost.now) × (turn.0 < length settled.now) }
-    ensures { result ≡ is_candidate cost.now settled.now turn.0 }
-{
-    let at = turn.0 as usize;
-    (settled[at] == 0) & (cost[at] != UNREACHED)
-}
-
-// By cost, then links.
-fn is_less(cost: &[u32], links: &[u16], one: TurnNumber, other: TurnNumber) -> bool
-    requires { (length links.now ≡ length cost.now) × (one.0 < length cost.now) × (other.0 < length cost.now) }
-    ensures { result ≡ key_less (key_at cost.now links.now one.0) (key_at cost.now links.now other.0) }
-{
-    let here = one.0 as usize;
-    let there = other.0 as usize;
-    (cost[here] < cost[there]) | ((cost[here] == cost[there]) & (links[here] < links[there]))
-}
-
-// The first of two turns where it is less, else the other.
-fn lesser_of(cost: &[u32], links: &[u16], one: TurnNumber, other: TurnNumber) -> TurnNumber
-    requires { (length links.now ≡ length cost.now) × (one.0 < length cost.now) × (other.0 < length cost.now) }
-    ensures { result ≡ lesser cost.now links.now one other }
-{
-    if is_less(cost, links, one, other) {
-        return one;
+impl Labels<'_> {
+    // Whether a turn is reached and not settled.
+    fn is_candidate(self, settled: &[bool], turn: TurnNumber) -> bool
+        requires { (turn.0 < length self.cost.now) × (turn.0 < length settled.now) }
+        ensures { result ≡ is_candidate self.entry.cost.now settled.now turn.0 }
+    {
+        let at = turn.0 as usize;
+        !settled[at] & (self.cost[at] != UNREACHED)
     }
-    other
-}
 
-// The least candidate of the turns passed and of one more.
-fn least_with(cost: &[u32], links: &[u16], settled: &[u8], turn: TurnNumber, held: Picked) -> Picked
-    requires links_len { (length links.now ≡ length cost.now) × (length settled.now ≡ length cost.now) × (turn.0 < length cost.now) }
-    requires held_below { HeldBelow (length cost.now) held }
-    ensures { result ≡ with_turn cost.now links.now settled.now turn held }
-{
-    if !is_candidate(cost, settled, turn) {
-        return held;
+    // By cost, then links.
+    fn is_less(self, one: TurnNumber, other: TurnNumber) -> bool
+        requires { (length self.links.now ≡ length self.cost.now) × (one.0 < length self.cost.now) × (other.0 < length self.cost.now) }
+        ensures { result ≡ key_less (key_at self.entry.cost.now self.entry.links.now one.0) (key_at self.entry.cost.now self.entry.links.now other.0) }
+    {
+        let here = one.0 as usize;
+        let there = other.0 as usize;
+        (self.cost[here] < self.cost[there])
+            | ((self.cost[here] == self.cost[there]) & (self.links[here] < self.links[there]))
     }
-    match held {
-        Picked::Nothing => Picked::Turn(turn),
-        Picked::Turn(least) => Picked::Turn(lesser_of(cost, links, turn, least)),
-    }
-}
 
-// The reached turn that is not settled and is least by cost, links, number.
-pub fn pick(cost: &[u32], links: &[u16], settled: &[u8]) -> Picked
-    requires { (length links.now ≡ length cost.now) × (length settled.now ≡ length cost.now) × (length cost.now ≤ most_turns) }
-    ensures { Picks cost.now links.now settled.now result }
-{
-    let mut least = Picked::Nothing;
-    let mut turn: u16 = 0;
-    'turns: loop {
-        if cost.len() <= turn as usize {
-            break 'turns least;
+    // The first of two turns where it is less, else the other.
+    fn lesser_of(self, one: TurnNumber, other: TurnNumber) -> TurnNumber
+        requires { (length self.links.now ≡ length self.cost.now) × (one.0 < length self.cost.now) × (other.0 < length self.cost.now) }
+        ensures { result ≡ lesser self.entry.cost.now self.entry.links.now one other }
+    {
+        if self.is_less(one, other) {
+            return one;
         }
-        least = least_with(cost, links, settled, TurnNumber(turn), least);
-        turn += 1;
+        other
+    }
+
+    // The least candidate of the turns passed and of one more.
+    fn least_with(
+        self,
+        settled: &[bool],
+        turn: TurnNumber,
+        held: Option<TurnNumber>,
+    ) -> Option<TurnNumber>
+        requires sized { (length self.links.now ≡ length self.cost.now) × (length settled.now ≡ length self.cost.now) × (turn.0 < length self.cost.now) }
+        requires held_below { HeldBelow (length self.cost.now) held }
+        ensures { result ≡ with_turn self.entry.cost.now self.entry.links.now settled.now turn held }
+    {
+        if !self.is_candidate(settled, turn) {
+            return held;
+        }
+        match held {
+            None => Some(turn),
+            Some(least) => Some(self.lesser_of(turn, least)),
+        }
+    }
+
+    // The reached turn that is not settled and is least by cost, links, number.
+    pub fn pick(self, settled: &[bool]) -> Option<TurnNumber>
+        requires { (length self.links.now ≡ length self.cost.now) × (length settled.now ≡ length self.cost.now) × (length self.cost.now ≤ most_turns) }
+        ensures { Picks self.entry.cost.now self.entry.links.now settled.now result }
+    {
+        let mut least = None;
+        for turn in 0..self.cost.len() as u16 {
+            least = self.least_with(settled, TurnNumber(turn), least);
+        }
+        least
     }
 }

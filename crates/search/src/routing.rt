@@ -1,210 +1,124 @@
 // Route: the tests in order, then the chosen walk's links.
-ghost use Rattle.std.specs.Prelude.{◌≡◌};
-ghost use Rattle.book.specs.declared.Checked.TheVariants.{Good};
-ghost use Rattle.walk.specs.View.{view_of};
+ghost use Rattle.std.specs.Prelude.{◌≡◌, Ok};
+ghost use Rattle.walk.specs.View.{view_of, walks_of};
+ghost use Rattle.search.specs.Lent.{labels_in};
 ghost use Rattle.search.specs.Route.{route_given_back, route_tests, RouteOnward, Routing};
-ghost use Rattle.walk.specs.Labels.{three};
 ghost use Rattle.search.specs.steps.Routes.{RouteFrom};
 
 use super::arriving::best_into;
-use super::judging::labels_true;
+use super::judging::Judge;
 use super::tests::{length_test, node_test};
 use super::tracing::trace;
-use super::{Arrival, RouteFigures, Routed};
-use book::{Checked, CheckedBook, Counts, NodeNumber, Refusal};
-use walk::{bytes_in, carry, check, counts_in};
+use super::{Labels, RouteFigures, Routed};
+use book::{CheckedBook, MOST_TURNS, NodeNumber, Refusal};
+use walk::{Viewed, check, read_walks};
 
 // Tests 14 and 15 over true labels, and the walk.
 fn route_onward(
-    book: &[u8],
-    counts: Counts,
+    view: Viewed<'_>,
     origin: NodeNumber,
     destination: NodeNumber,
     turn_back: &[u16],
-    link_cost: &[u32],
-    link_links: &[u16],
-    link_back: &[u16],
+    links: Labels<'_>,
     route: &mut [u16],
-) -> Routed
-    requires { RouteFrom book.now counts origin.0 turn_back.now (three link_cost.now link_links.now link_back.now) }
-    ensures { RouteOnward (view_of book.now counts) origin.0 destination.0 route.old result route.new }
+) -> Result<Routed, Refusal>
+    requires from { RouteFrom view.book.bytes.now view.book.counts origin.0 turn_back.now (labels_in links) }
+    requires own { view.walks.now ≡ walks_of view.book.bytes.now view.book.counts }
+    ensures { RouteOnward (view_of view.entry.book.bytes.now view.entry.book.counts) origin.0 destination.0 route.old result route.new }
 {
     if origin.0 == destination.0 {
-        return Routed::Done(0, 0);
+        return Ok(Routed { cost: 0, links: 0 });
     }
-    match best_into(book, counts, destination, link_cost, link_links) {
-        Arrival::Nothing => Routed::Refused(Refusal {
-            number: 14,
-            place: 0,
-        }),
-        Arrival::By(link, cost, count) => {
-            if route.len() < count as usize {
-                return Routed::Refused(Refusal {
-                    number: 15,
-                    place: 0,
-                });
-            }
-            trace(book, counts, turn_back, link_back, link, count, route);
-            Routed::Done(cost, count)
-        }
+    let Some(arrival) = best_into(view, destination, links) else {
+        return Err(Refusal::NoWalk);
+    };
+    if route.len() < arrival.links as usize {
+        return Err(Refusal::NoRoom);
     }
+    trace(
+        view,
+        turn_back,
+        links.back,
+        arrival.link,
+        arrival.links,
+        route,
+    );
+    Ok(Routed {
+        cost: arrival.cost,
+        links: arrival.links,
+    })
 }
 
 // Test 13, and on where it passes.
-fn route_judged(
-    book: &[u8],
-    counts: Counts,
+fn route_judged<'l>(
+    book: CheckedBook<'_>,
     origin: NodeNumber,
     destination: NodeNumber,
-    turn_cost: &[u32],
-    turn_links: &[u16],
-    turn_back: &[u16],
-    link_cost: &[u32],
-    link_links: &[u16],
-    link_back: &[u16],
+    turns: Labels<'l>,
+    links: Labels<'l>,
     route: &mut [u16],
-) -> Routed
-    requires { route_tests book.now origin.0 destination.0 (three turn_cost.now turn_links.now turn_back.now) (three link_cost.now link_links.now link_back.now) ≡ Good counts }
-    ensures { Routing book.now origin.0 destination.0 (three turn_cost.now turn_links.now turn_back.now) (three link_cost.now link_links.now link_back.now) route.old result route.new }
+) -> Result<Routed, Refusal>
+    requires { route_tests book.bytes.now origin.0 destination.0 (labels_in turns) (labels_in links) ≡ Ok book.counts }
+    ensures { Routing book.entry.bytes.now origin.0 destination.0 (labels_in turns.entry) (labels_in links.entry) route.old result route.new }
 {
-    if !labels_true(
-        book, counts, origin, turn_cost, turn_links, turn_back, link_cost, link_links, link_back,
-    ) {
-        return Routed::Refused(Refusal {
-            number: 13,
-            place: 0,
-        });
-    }
-    route_onward(
+    let count = book.counts.turns;
+    let mut walks = [0u16; MOST_TURNS];
+    read_walks(book, &mut walks[..count]);
+    let view = Viewed {
         book,
-        counts,
+        walks: &walks[..count],
+    };
+    let judged = Judge {
+        view,
         origin,
-        destination,
-        turn_back,
-        link_cost,
-        link_links,
-        link_back,
-        route,
-    )
-}
-
-// The same, of a checked book that is carried with its counts: the book is taken apart here.
-fn route_carried(
-    checked: CheckedBook<'_>,
-    origin: NodeNumber,
-    destination: NodeNumber,
-    turn_cost: &[u32],
-    turn_links: &[u16],
-    turn_back: &[u16],
-    link_cost: &[u32],
-    link_links: &[u16],
-    link_back: &[u16],
-    route: &mut [u16],
-) -> Routed
-    requires { route_tests checked.bytes.now origin.0 destination.0 (three turn_cost.now turn_links.now turn_back.now) (three link_cost.now link_links.now link_back.now) ≡ Good checked.counts }
-    ensures { Routing checked.entry.bytes.now origin.0 destination.0 (three turn_cost.now turn_links.now turn_back.now) (three link_cost.now link_links.now link_back.now) route.old result route.new }
-{
-    route_judged(
-        bytes_in(checked),
-        counts_in(checked),
-        origin,
-        destination,
-        turn_cost,
-        turn_links,
-        turn_back,
-        link_cost,
-        link_links,
-        link_back,
-        route,
-    )
-}
-
-// The same, of a book and the counts that its check found: from here on they are carried together.
-fn route_checked(
-    book: &[u8],
-    counts: Counts,
-    origin: NodeNumber,
-    destination: NodeNumber,
-    turn_cost: &[u32],
-    turn_links: &[u16],
-    turn_back: &[u16],
-    link_cost: &[u32],
-    link_links: &[u16],
-    link_back: &[u16],
-    route: &mut [u16],
-) -> Routed
-    requires { route_tests book.now origin.0 destination.0 (three turn_cost.now turn_links.now turn_back.now) (three link_cost.now link_links.now link_back.now) ≡ Good counts }
-    ensures { Routing book.now origin.0 destination.0 (three turn_cost.now turn_links.now turn_back.now) (three link_cost.now link_links.now link_back.now) route.old result route.new }
-{
-    route_carried(
-        carry(book, counts),
-        origin,
-        destination,
-        turn_cost,
-        turn_links,
-        turn_back,
-        link_cost,
-        link_links,
-        link_back,
-        route,
-    )
+        turns,
+        links,
+    };
+    if !judged.all_true() {
+        return Err(Refusal::UntrueLabel);
+    }
+    route_onward(view, origin, destination, turns.back, links, route)
 }
 
 // Document 01, "What can be asked": the labels are lent for reading only, and of the route buffer only the walk's own places are written.
-pub fn route(
+pub fn route<'l>(
     book: &[u8],
     origin: NodeNumber,
     destination: NodeNumber,
-    turn_cost: &[u32],
-    turn_links: &[u16],
-    turn_back: &[u16],
-    link_cost: &[u32],
-    link_links: &[u16],
-    link_back: &[u16],
+    turns: Labels<'l>,
+    links: Labels<'l>,
     route: &mut [u16],
-) -> Routed
-    ensures { Routing book.now origin.0 destination.0 (three turn_cost.now turn_links.now turn_back.now) (three link_cost.now link_links.now link_back.now) route.old result route.new }
+) -> Result<Routed, Refusal>
+    ensures { Routing book.now origin.0 destination.0 (labels_in turns.entry) (labels_in links.entry) route.old result route.new }
 {
-    match length_test(
-        node_test(node_test(check(book), origin), destination),
-        turn_cost,
-        turn_links,
-        turn_back,
-        link_cost,
-        link_links,
-        link_back,
-    ) {
-        Checked::Refused(found) => Routed::Refused(found),
-        Checked::Good(counts) => route_checked(
-            book,
-            counts,
-            origin,
-            destination,
-            turn_cost,
-            turn_links,
-            turn_back,
-            link_cost,
-            link_links,
-            link_back,
-            route,
-        ),
-    }
+    let counts = check(book)?;
+    node_test(counts, origin)?;
+    node_test(counts, destination)?;
+    length_test(counts, turns, links)?;
+    route_judged(
+        CheckedBook::carry(book, counts),
+        origin,
+        destination,
+        turns,
+        links,
+        route,
+    )
 }
 
 // Number, place, cost and number of links of an answer.
-pub fn route_given_back(answer: Routed) -> RouteFigures
+pub fn route_given_back(answer: Result<Routed, Refusal>) -> RouteFigures
     ensures { result ≡ route_given_back answer }
 {
     match answer {
-        Routed::Done(cost, links) => RouteFigures {
+        Ok(routed) => RouteFigures {
             number: 0,
             place: 0,
-            cost,
-            links,
+            cost: routed.cost,
+            links: routed.links,
         },
-        Routed::Refused(found) => RouteFigures {
-            number: found.number,
-            place: found.place,
+        Err(found) => RouteFigures {
+            number: found.number(),
+            place: found.place(),
             cost: 0,
             links: 0,
         },

@@ -1,101 +1,69 @@
 // The entries that need no turn before them.
-ghost use Rattle.std.specs.Prelude.{◌≡◌, ◌<◌, length};
-ghost use Rattle.book.specs.declared.Checked.TheVariants.{Good};
-ghost use Rattle.book.specs.Check.{check_of};
-ghost use Rattle.walk.specs.View.{view_of, view_with};
-ghost use Rattle.walk.specs.Labels.{three};
+ghost use Rattle.std.specs.Prelude.{◌≡◌, ◌<◌};
+ghost use Rattle.walk.specs.View.{view_in};
+ghost use Rattle.search.specs.Lent.{table_in, SameBuffers};
 ghost use Rattle.search.specs.steps.Tables.{as_entry, table_up_to, Sized};
 ghost use Rattle.search.specs.steps.Starts.{start_entry, alone_entry};
 
-use super::Label;
 use super::figures::NO_WALK;
-use super::labels::place;
-use book::{BARRED, Counts, LinkNumber, NodeNumber, TurnNumber};
-use walk::{START_BACK, link_cost, link_from, turn_cost, turn_first};
+use super::{Label, LabelsMut};
+use book::{BARRED, LinkNumber, NodeNumber, TurnNumber};
+use walk::{START_BACK, Viewed};
 
 // A turn of two links, where it is open and its first link leaves the origin.
-pub fn start_of(
-    book: &[u8],
-    counts: Counts,
-    walks: &[u16],
-    origin: NodeNumber,
-    turn: TurnNumber,
-) -> Label
-    requires book_value { check_of book.now ≡ Good counts }
-    requires walks_len { (length walks.now ≡ counts.turns) × (turn.0 < counts.turns) }
-    ensures { as_entry result ≡ start_entry (view_with book.now counts walks.now) origin.0 turn.0 }
+pub fn start_of(view: Viewed<'_>, origin: NodeNumber, turn: TurnNumber) -> Label
+    requires { turn.0 < view.book.counts.turns }
+    ensures { as_entry result ≡ start_entry (view_in view.entry) origin.0 turn.0 }
 {
-    let walk = walks[turn.0 as usize];
-    if walk == BARRED {
+    if view.walks[turn.0 as usize] == BARRED {
         return NO_WALK;
     }
-    let first = turn_first(book, counts, turn);
-    let from = link_from(book, counts, first);
+    let first = view.turn_first(turn);
+    let from = view.link_from(first);
     if from.0 != origin.0 {
         return NO_WALK;
     }
     Label {
-        cost: link_cost(book, counts, first) + turn_cost(book, counts, walks, turn),
+        cost: view.link_cost(first) + view.turn_cost(turn),
         links: 2,
         back: START_BACK,
     }
 }
 
-pub fn start_turns(
-    book: &[u8],
-    counts: Counts,
-    walks: &[u16],
-    origin: NodeNumber,
-    cost: &mut [u32],
-    links: &mut [u16],
-    back: &mut [u16],
-)
-    requires book_value { (check_of book.now ≡ Good counts) × (length walks.now ≡ counts.turns) }
-    requires sized { Sized counts.turns (three cost.old links.old back.old) }
-    ensures { three cost.new links.new back.new ≡ table_up_to counts.turns (start_entry (view_with book.now counts walks.now) origin.0) }
+pub fn start_turns(view: Viewed<'_>, origin: NodeNumber, turns: &mut LabelsMut<'_>)
+    requires { Sized view.book.counts.turns (table_in turns.old) }
+    ensures started { table_in turns.new ≡ table_up_to view.entry.book.counts.turns (start_entry (view_in view.entry) origin.0) }
+    ensures same { SameBuffers turns.old turns.new }
 {
-    let turns = counts.turns;
-    let mut turn: u16 = 0;
-    'turns: while (turn as usize) < turns {
-        let label = start_of(book, counts, walks, origin, TurnNumber(turn));
-        place(cost, links, back, turn as usize, label);
-        turn += 1;
+    for turn in 0..view.book.counts.turns as u16 {
+        let label = start_of(view, origin, TurnNumber(turn));
+        turns.place(turn as usize, label);
     }
 }
 
 // A walk of one link, where it leaves the origin.
-pub fn alone(book: &[u8], counts: Counts, origin: NodeNumber, link: LinkNumber) -> Label
-    requires { (check_of book.now ≡ Good counts) × (link.0 < counts.links) }
-    ensures { as_entry result ≡ alone_entry (view_of book.now counts) origin.0 link.0 }
+pub fn alone(view: Viewed<'_>, origin: NodeNumber, link: LinkNumber) -> Label
+    requires { link.0 < view.book.counts.links }
+    ensures { as_entry result ≡ alone_entry (view_in view.entry) origin.0 link.0 }
 {
-    let from = link_from(book, counts, link);
+    let from = view.link_from(link);
     if from.0 != origin.0 {
         return NO_WALK;
     }
     Label {
-        cost: link_cost(book, counts, link),
+        cost: view.link_cost(link),
         links: 1,
         back: START_BACK,
     }
 }
 
-pub fn start_links(
-    book: &[u8],
-    counts: Counts,
-    origin: NodeNumber,
-    cost: &mut [u32],
-    links: &mut [u16],
-    back: &mut [u16],
-)
-    requires book_value { check_of book.now ≡ Good counts }
-    requires sized { Sized counts.links (three cost.old links.old back.old) }
-    ensures { three cost.new links.new back.new ≡ table_up_to counts.links (alone_entry (view_of book.now counts) origin.0) }
+pub fn start_links(view: Viewed<'_>, origin: NodeNumber, links: &mut LabelsMut<'_>)
+    requires { Sized view.book.counts.links (table_in links.old) }
+    ensures started { table_in links.new ≡ table_up_to view.entry.book.counts.links (alone_entry (view_in view.entry) origin.0) }
+    ensures same { SameBuffers links.old links.new }
 {
-    let count = counts.links;
-    let mut link: u16 = 0;
-    'links: while (link as usize) < count {
-        let label = alone(book, counts, origin, LinkNumber(link));
-        place(cost, links, back, link as usize, label);
-        link += 1;
+    for link in 0..view.book.counts.links as u16 {
+        let label = alone(view, origin, LinkNumber(link));
+        links.place(link as usize, label);
     }
 }

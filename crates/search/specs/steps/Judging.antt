@@ -1,7 +1,5 @@
 -- The judge's tests: an entry is one that its start or its back offers, or none, and nothing that is offered goes ahead of it.
-use Rattle.std.specs.Prelude.{ℕ, zero, suc, List, Bool, true, false, not, ◌&&◌, ◌||◌, ltb, leb, eqb, get_or}
-use Rattle.walk.specs.declared.Step.{Step}
-use Rattle.walk.specs.declared.Step.TheVariants.{Barred, Seconds}
+use Rattle.std.specs.Prelude.{ℕ, zero, suc, List, Bool, true, false, not, ◌&&◌, ◌||◌, ltb, leb, eqb, get_or, None, Some, Option}
 use Rattle.walk.specs.View.{View}
 use Rattle.walk.specs.Labels.{Entry, Table, entry_at, no_entry}
 use Rattle.walk.specs.steps.ViewNet.{may_follow, is_none}
@@ -19,18 +17,18 @@ unfoldable pub limited : Entry → Bool
 limited e = leb 2 e.links && (leb e.links 4097 && leb e.cost 191728800)
 
 -- the label that turn p, of this cost and these links, offers by a step, goes ahead of an entry
-abbrev pub overtaken_by : Step → ℕ → ℕ → ℕ → Entry → Bool
-overtaken_by Barred p cost links e = false
-overtaken_by (Seconds more) p cost links e = goes_ahead (one_turn_on cost links more p) e
+abbrev pub overtaken_by : Option ℕ → ℕ → ℕ → ℕ → Entry → Bool
+overtaken_by None p cost links e = false
+overtaken_by (Some more) p cost links e = goes_ahead (one_turn_on cost links more p) e
 
 -- turn t may follow turn p, and what it is offered goes ahead of its entry
 unfoldable pub overtaken : View → ℕ → ℕ → ℕ → Table → ℕ → Bool
 overtaken U p cost links turns t = may_follow U p t && goes_ahead (onward_to U p cost links t) (entry_at turns t)
 
 -- the entry e of turn t is what the step of this kind from its back offers
-abbrev pub stepped_by : Step → Entry → Entry → Bool
-stepped_by Barred before e = false
-stepped_by (Seconds more) before e = stands_as e (one_turn_on before.cost before.links more e.back)
+abbrev pub stepped_by : Option ℕ → Entry → Entry → Bool
+stepped_by None before e = false
+stepped_by (Some more) before e = stands_as e (one_turn_on before.cost before.links more e.back)
 
 -- the entry e of turn t is what its back offers
 unfoldable pub back_leads : View → Table → ℕ → Entry → Bool

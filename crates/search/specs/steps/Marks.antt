@@ -1,7 +1,7 @@
 -- The marks of settled turns, and how many there are.
-use Rattle.std.specs.Prelude.{ℕ, ◌+◌, List, [], ◌∷◌, eqb}
+use Rattle.std.specs.Prelude.{ℕ, ◌+◌, List, [], ◌∷◌, Bool, not}
 use Rattle.walk.specs.Counting.{one_unless}
 
-unfoldable pub settled_count : List ℕ → ℕ
+unfoldable pub settled_count : List Bool → ℕ
 settled_count [] = 0
-settled_count (mark ∷ rest) = one_unless (eqb mark 0) + settled_count rest
+settled_count (mark ∷ rest) = one_unless (not mark) + settled_count rest

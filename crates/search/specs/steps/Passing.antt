@@ -1,7 +1,5 @@
 -- A settled turn's label passed on to every turn that may follow it.
-use Rattle.std.specs.Prelude.{ℕ, suc, ◌+◌, ◌≤◌, ◌<◌, Bool, true, false}
-use Rattle.walk.specs.declared.Step.{Step}
-use Rattle.walk.specs.declared.Step.TheVariants.{Barred, Seconds}
+use Rattle.std.specs.Prelude.{ℕ, suc, ◌+◌, ◌≤◌, ◌<◌, Bool, true, false, None, Some, Option}
 use Rattle.walk.specs.View.{View}
 use Rattle.walk.specs.Walks.{between, seconds}
 use Rattle.walk.specs.steps.Costs.{turn_cost}
@@ -14,9 +12,9 @@ abbrev pub StepFits : ℕ → ℕ → Type 0
 StepFits cost links = (cost ≤ 4000000000) × (links < 65535)
 
 -- one turn, by the step to it: p's cost and links, and the step
-abbrev pub passed_by : Step → Table → ℕ → ℕ → ℕ → ℕ → Table
-passed_by Barred table p cost links t = table
-passed_by (Seconds more) table p cost links t = offered table t (one_turn_on cost links more p)
+abbrev pub passed_by : Option ℕ → Table → ℕ → ℕ → ℕ → ℕ → Table
+passed_by None table p cost links t = table
+passed_by (Some more) table p cost links t = offered table t (one_turn_on cost links more p)
 
 abbrev pub better : Bool → Entry → Entry → Entry
 better true new old = new

@@ -1,5 +1,5 @@
 -- A label offered to one entry of a table.
-use Rattle.std.specs.Prelude.{ℕ, ◌+◌, ◌≡◌, List, Bool, true, false, ◌&&◌, ◌||◌, ltb, eqb, length, get_or, set}
+use Rattle.std.specs.Prelude.{ℕ, ◌+◌, ◌≡◌, ◌<◌, List, Bool, true, false, ◌&&◌, ◌||◌, ltb, eqb, length, get_or, set}
 use Rattle.walk.specs.View.{up_to}
 use Rattle.walk.specs.Labels.{Entry, Table, entry_at}
 use Rattle.walk.specs.Counting.{same_entry}
@@ -44,3 +44,9 @@ pub record Sized (count : ℕ) (table : Table) : Type 0 where
   pub cost : length table.cost ≡ count
   pub links : length table.links ≡ count
   pub back : length table.back ≡ count
+
+-- each of the three lists has an entry of this number
+pub record Holds (table : Table) (k : ℕ) : Type 0 where
+  pub cost : k < length table.cost
+  pub links : k < length table.links
+  pub back : k < length table.back

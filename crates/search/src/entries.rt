@@ -1,0 +1,114 @@
+// One entry of a table of labels: what it holds, and the offer of another label.
+ghost use Rattle.std.specs.Prelude.{◌≡◌, ◌+◌, ◌<◌, length};
+ghost use Rattle.walk.specs.Labels.{entry_at};
+ghost use Rattle.walk.specs.steps.ViewNet.{is_none};
+ghost use Rattle.search.specs.Lent.{labels_in, table_in, SameBuffers};
+ghost use Rattle.search.specs.steps.Tables.{as_entry, own_label, one_turn_on, stands_as, placed, goes_ahead, offered, Holds};
+ghost use Rattle.search.specs.steps.Judging.{limited};
+
+use super::figures::{MOST_WALK_LINKS, MOST_WALK_SECONDS, NO_WALK};
+use super::{Label, Labels, LabelsMut};
+use book::TurnNumber;
+
+impl Label {
+    // The label of a walk with one turn more, by these seconds.
+    pub fn one_turn_on(self, more: u32, before: TurnNumber) -> Label
+        requires { (self.cost + more < 4294967296) × (self.links < 65535) }
+        ensures { as_entry result ≡ one_turn_on self.cost self.links more before.0 }
+    {
+        Label {
+            cost: self.cost + more,
+            links: self.links + 1,
+            back: before.0,
+        }
+    }
+
+    // By cost, then links, then back.
+    pub fn goes_ahead(self, other: Label) -> bool
+        ensures { result ≡ goes_ahead (as_entry self) (as_entry other) }
+    {
+        self < other
+    }
+
+    #[tactic(auto, unfolding(walk::specs::Counting::same_entry))]
+    pub fn same_as(self, other: Label) -> bool
+        ensures { result ≡ stands_as (as_entry self) (as_entry other) }
+    {
+        self == other
+    }
+
+    #[tactic(auto, unfolding(walk::specs::steps::ViewNet::is_none))]
+    pub fn is_none(self) -> bool
+        ensures { result ≡ is_none (as_entry self) }
+    {
+        self.same_as(NO_WALK)
+    }
+
+    // Whether a turn's chosen walk may have these figures.
+    #[tactic(auto, unfolding(crate::specs::steps::Judging::limited))]
+    pub fn limited(self) -> bool
+        ensures { result ≡ limited (as_entry self) }
+    {
+        (2 <= self.links) & ((self.links <= MOST_WALK_LINKS) & (self.cost <= MOST_WALK_SECONDS))
+    }
+}
+
+impl Labels<'_> {
+    pub fn at(self, entry: usize) -> Label
+        requires { Holds (labels_in self) entry }
+        ensures { as_entry result ≡ entry_at (labels_in self.entry) entry }
+    {
+        Label {
+            cost: self.cost[entry],
+            links: self.links[entry],
+            back: self.back[entry],
+        }
+    }
+
+    // What a turn or a link offers: its figures, and its own number as the back.
+    pub fn own(self, entry: u16) -> Label
+        requires { Holds (labels_in self) entry }
+        ensures { as_entry result ≡ own_label self.entry.cost.now self.entry.links.now entry }
+    {
+        Label {
+            cost: self.cost[entry as usize],
+            links: self.links[entry as usize],
+            back: entry,
+        }
+    }
+}
+
+impl LabelsMut<'_> {
+    // The same buffers, for reading.
+    pub fn lent(&self) -> Labels<'_>
+        ensures { labels_in result ≡ table_in self.now }
+    {
+        Labels {
+            cost: self.cost,
+            links: self.links,
+            back: self.back,
+        }
+    }
+
+    pub fn place(&mut self, entry: usize, label: Label)
+        requires { Holds (table_in self.old) entry }
+        ensures placed { table_in self.new ≡ placed (table_in self.old) entry (as_entry label) }
+        ensures same { SameBuffers self.old self.new }
+    {
+        self.cost[entry] = label.cost;
+        self.links[entry] = label.links;
+        self.back[entry] = label.back;
+    }
+
+    // The entry takes the label where it goes ahead of its own.
+    #[tactic(auto, unfolding(crate::specs::steps::Tables::offered))]
+    pub fn offer(&mut self, entry: usize, label: Label)
+        requires { Holds (table_in self.old) entry }
+        ensures offered { table_in self.new ≡ offered (table_in self.old) entry (as_entry label) }
+        ensures same { SameBuffers self.old self.new }
+    {
+        if label.goes_ahead(self.lent().at(entry)) {
+            self.place(entry, label);
+        }
+    }
+}

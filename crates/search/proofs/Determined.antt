@@ -17,7 +17,7 @@ use Rattle.walk.proofs.theory.Laws.{Compared, lt_tri, clash}
 use Rattle.walk.proofs.GoodView.{GoodView, good_view}
 use Rattle.walk.proofs.LabelLaws.{turn_one, link_one, route_one}
 use Rattle.search.specs.Search.{Search, refused, done, Searched}
-use Rattle.search.specs.Route.{RouteOnward, no_walk, no_room, done as routed, Routing, refused as route-refused, untrue, onward, routed, RouteAnswer}
+use Rattle.search.specs.Route.{RouteOnward, no_walk, no_room, done as route_done, Routing, refused as route-refused, untrue, onward, routed, RouteAnswer}
 use Rattle.search.specs.steps.Tables.{Sized}
 use Rattle.search.specs.steps.Judging.{Tells}
 use Rattle.search.specs.steps.Picking.{Picks}
@@ -54,7 +54,7 @@ search_determined book r turns links one other t l t' l' (done counts e a b) (do
     (a ∙ sym a', labels_one book counts (search_passed book r turns links counts e).0 r t l t' l' b (subst (λ (x : Counts). TrueLabels (view_of book x) r t' l') same b'))
 
 -- a search ignores what the buffers held
-pub search_ignores : (book : List ℕ) (r : ℕ) (turns links turns-too links-too turns-one links-one turns-other links-other : Table) → Search book r turns links SearchDone turns-one links-one → Search book r turns-too links-too SearchDone turns-other links-other
+pub search_ignores : (book : List ℕ) (r : ℕ) (turns links turns-too links-too turns-one links-one turns-other links-other : Table) → Search book r turns links (Ok tt) turns-one links-one → Search book r turns-too links-too (Ok tt) turns-other links-other
     → (turns-one ≡ turns-other) × (links-one ≡ links-other)
 search_ignores book r turns links turns-too links-too t l t' l' (refused found e a b c) second = clash (cc)
 search_ignores book r turns links turns-too links-too t l t' l' (done counts e a b) (refused found' e' a' b' c') = clash (cc)
@@ -79,13 +79,13 @@ module _ (U : View) (good : GoodView U) (r s : ℕ) (buffer : List ℕ) where
   onward_determined : (one other : RouteAnswer) (after_one after-other : List ℕ) → RouteOnward U r s buffer one after_one → RouteOnward U r s buffer other after-other → (one ≡ other) × (after_one ≡ after-other)
   onward_determined one other a b (no_walk n e f) (no_walk n' e' f') = (e ∙ sym e', f ∙ sym f')
   onward_determined one other a b (no_walk n e f) (no_room walk w short e' f') = absurd (n walk w.walk)
-  onward_determined one other a b (no_walk n e f) (routed walk w fits e' f') = absurd (n walk w.walk)
+  onward_determined one other a b (no_walk n e f) (route_done walk w fits e' f') = absurd (n walk w.walk)
   onward_determined one other a b (no_room walk w short e f) (no_walk n e' f') = absurd (n walk w.walk)
   onward_determined one other a b (no_room walk w short e f) (no_room walk' w' short' e' f') = (e ∙ sym e', f ∙ sym f')
-  onward_determined one other a b (no_room walk w short e f) (routed walk' w' fits e' f') = absurd (not_both walk' walk w' w fits short)
-  onward_determined one other a b (routed walk w fits e f) (no_walk n e' f') = absurd (n walk w.walk)
-  onward_determined one other a b (routed walk w fits e f) (no_room walk' w' short e' f') = absurd (not_both walk walk' w w' fits short)
-  onward_determined one other a b (routed walk w fits e f) (routed walk' w' fits' e' f') =
+  onward_determined one other a b (no_room walk w short e f) (route_done walk' w' fits e' f') = absurd (not_both walk' walk w' w fits short)
+  onward_determined one other a b (route_done walk w fits e f) (no_walk n e' f') = absurd (n walk w.walk)
+  onward_determined one other a b (route_done walk w fits e f) (no_room walk' w' short e' f') = absurd (not_both walk walk' w w' fits short)
+  onward_determined one other a b (route_done walk w fits e f) (route_done walk' w' fits' e' f') =
       let same = route_one U good r s walk walk' w w' in
       (e ∙ ap (λ (x : List ℕ). routed (cost_of U x) (length x)) same ∙ sym e', f ∙ ap (λ (x : List ℕ). x ++ drop (length x) buffer) same ∙ sym f')
 
@@ -116,7 +116,7 @@ pick_determined cost links settled None (Some u) a b = clash (cc (a u.0 b.within
 pick_determined cost links settled (Some t) None a b = clash (cc (a.candidate, b t.0 a.within))
 pick_determined cost links settled (Some t) (Some u) a b = by (lt_tri t.0 u.0)
   where
-    by : Compared ◌<◌ t.0 u.0 → ◌≡◌ {A = Picked} (Some t) (Some u)
+    by : Compared ◌<◌ t.0 u.0 → ◌≡◌ {A = Option TurnNumber} (Some t) (Some u)
     by (inl h) = absurd (a.least u.0 b.within b.candidate (b.first t.0 h a.candidate))
     by (inr (inl same)) = ap (λ (n : ℕ). Some (record { 0 = n })) same
     by (inr (inr h)) = absurd (b.least t.0 a.within a.candidate (a.first u.0 h b.candidate))

@@ -21,7 +21,7 @@ use Rattle.search.specs.Route.{no_walk, no_room, done, Routing, refused, untrue,
 use Rattle.search.specs.Accounted.{Accounted}
 use Rattle.search.proofs.Labelling.{few}
 use Rattle.search.proofs.Tested.{node_passed, length_passed}
-use Rattle.search.proofs.RouteRoom.{room_serves}
+use Rattle.search.proofs.RouteRoom.{room_serves, same_figures}
 
 goes : (U : View) (r s : ℕ) (links : List ℕ) → NodeWalk U r s links → permitted U r links ≡ true
 unfolding permitted
@@ -47,8 +47,7 @@ done_accounted book r s turns links buffer cost count answer after told (onward 
 done_accounted book r s turns links buffer cost count answer after told (onward own e labels (done walk route fits a b)) =
     let passed = (length_passed (both_nodes book r s) turns links own e).0 in
     let checked = route_checked book r s own passed walk route in
-    let cost_same : cost_of (view_of book own) walk ≡ cost = cc (told, a) in
-    let count_same : length walk ≡ count = cc (told, a) in
+    let (cost_same, count_same) = same_figures a told in
     let front : take count after ≡ walk = ap (take count) b ∙ take_at walk (drop (length walk) buffer) count count_same in
     subst (Accounted book r links cost) (sym front)
     (record {

@@ -93,9 +93,10 @@ link_told e link cost count h = by (eqb e.cost no_entry.cost) refl h
     by : (test : Bool) → eqb e.cost no_entry.cost ≡ test → arrival_if test e ≡ Some (record { link = link; cost = cost; links = count }) → (e ≡ label_of link cost count) × (cost ≡ no_entry.cost → ⊥)
     by true own same = clash (cc)
     by false own same =
-        let costs : e.cost ≡ cost = cc in
-        let counted : e.links ≡ count = cc in
-        let number : ◌≡◌ {A = LinkNumber} (record { 0 = e.back }) link = cc in
+        let figures : ◌≡◌ {A = Arrival} (record { link = record { 0 = e.back }; cost = e.cost; links = e.links }) (record { link = link; cost = cost; links = count }) = cc in
+        let costs : e.cost ≡ cost = ap (λ (x : Arrival). x.cost) figures in
+        let counted : e.links ≡ count = ap (λ (x : Arrival). x.links) figures in
+        let number : ◌≡◌ {A = LinkNumber} (record { 0 = e.back }) link = ap (λ (x : Arrival). x.link) figures in
         (rw (← costs, ← counted, ← number), λ unreached. eqb-false _ _ own (costs ∙ unreached))
 
 -- to another node

@@ -10,7 +10,7 @@ use lib.Seq.{take_at}
 use Rattle.book.specs.declared.Counts.{Counts}
 use Rattle.book.specs.declared.Refusal.{Refusal}
 use Rattle.std.specs.Prelude.{Ok, Err}
-use Rattle.book.specs.Check.{Checked, check_of, refusal}
+use Rattle.book.specs.Check.{Checked, check_of}
 use Rattle.book.proofs.Limits.{both}
 use Rattle.walk.specs.View.{View, view_of, walks_of}
 use Rattle.walk.specs.Walks.{all, permitted, cost_of}
@@ -20,7 +20,7 @@ use Rattle.walk.proofs.GoodView.{good_view}
 use Rattle.walk.proofs.LimitedView.{limited_view}
 use Rattle.walk.proofs.ChosenLaws.{route_bounded}
 use Rattle.search.specs.Tests.{node_test, length_test}
-use Rattle.search.specs.Route.{no_walk, no_room, done, Routing, refused, untrue, onward, routed, RouteAnswer}
+use Rattle.search.specs.Route.{no_walk, no_room, done, Routing, refused, untrue, onward, routed, RouteAnswer, route_given_back}
 use Rattle.search.specs.steps.Routes.{route_room}
 use Rattle.search.proofs.Tested.{route_passed}
 use Rattle.book.specs.declared.Refusal.TheVariants.{NoRoom}
@@ -49,6 +49,12 @@ links_exist U r s links (enters l walk h) =
 module _ (book : List ℕ) (r s : ℕ) (counts : Counts) (checked : check_of book ≡ Ok counts) (walk : List ℕ) (route : Route (view_of book counts) r s walk) where
   pub room_serves : (length walk ≤ route_room) × (cost_of (view_of book counts) walk ≤ 191728800)
   room_serves = route_bounded (view_of book counts) (good_view book counts (walks_of book counts) checked) r (limited_view book counts checked) s walk route
+
+-- answers that are one have one cost and one number of links
+pub same_figures : {answer : RouteAnswer} {cost count cost_too count_too : ℕ} → answer ≡ routed cost count → answer ≡ routed cost_too count_too → (cost ≡ cost_too) × (count ≡ count_too)
+same_figures one other =
+    let same = sym one ∙ other in
+    (ap (λ (x : RouteAnswer). (route_given_back x).cost) same, ap (λ (x : RouteAnswer). (route_given_back x).links) same)
 
 module _ (book : List ℕ) (r s : ℕ) (turns links : Table) (buffer : List ℕ) where
   -- what the check of the book refuses, the route refuses
@@ -82,8 +88,7 @@ module _ (book : List ℕ) (r s : ℕ) (turns links : Table) (buffer : List ℕ)
     found_elsewhere counts checked cost count answer told (onward own e labels (done walk route fits a b)) =
         let passed = (route_passed book r s turns links own e).0 in
         let same : own ≡ counts = cc (passed, checked) in
-        let cost_same : cost_of (view_of book own) walk ≡ cost = cc (told, a) in
-        let count_same : length walk ≡ count = cc (told, a) in
+        let (cost_same, count_same) = same_figures a told in
         let front : take count after ≡ walk = ap (take count) b ∙ take_at walk (drop (length walk) room) count count_same in
         let few = (room_serves book r s own passed walk route).0 in
         record {

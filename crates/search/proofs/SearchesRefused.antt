@@ -5,7 +5,7 @@ use mathlib.Core.List.{List, [], ◌∷◌, ◌++◌}
 use mathlib.Core.Bool.{true}
 use native.Mathlib.Omega.{arith}
 use Rattle.std.specs.Prelude.{Ok, Err, Some}
-use Rattle.book.specs.Check.{check_of, refusal}
+use Rattle.book.specs.Check.{check_of}
 use Rattle.book.specs.BookA.{counts_a}
 use Rattle.book.proofs.BookA.{book_a_good}
 use Rattle.walk.specs.Labels.{Table, Key, Less}
@@ -27,7 +27,7 @@ use Rattle.book.specs.declared.Refusal.TheVariants.{LabelLength, NoNode}
 diamond_good : check_of diamond ≡ Ok counts_of_diamond
 diamond_good = sheets_refused.1.1.1.1.1.1.1.1.1.0.0
 
-book_a_right : (claimed : Outcome) → Allows (of_book_a claimed) (leaving Done given)
+book_a_right : (claimed : Outcome) → Allows (of_book_a claimed) (leaving (Ok tt) given)
 unfolding node_test fits length_test
 book_a_right claimed = done counts_a (rw (book_a_good) refl) refl given_true
 
@@ -51,7 +51,7 @@ one_outcome row one other a b =
 row_refused : (row : Row) → Allows row row.right → differ (numbers_in row.claimed) (numbers_in row.right) ≡ true → Refused row
 row_refused row = right_alone (Allows row) numbers_in (one_outcome row) row.right row.claimed
 
-book_a_refused : (claimed : Outcome) → differ (numbers_in claimed) (numbers_in (leaving Done given)) ≡ true → Refused (of_book_a claimed)
+book_a_refused : (claimed : Outcome) → differ (numbers_in claimed) (numbers_in (leaving (Ok tt) given)) ≡ true → Refused (of_book_a claimed)
 book_a_refused claimed = row_refused (of_book_a claimed) (book_a_right claimed)
 
 turn_too_many_refused : (claimed : Outcome) → differ (numbers_in claimed) (numbers_in (with_turn_too_many claimed).right) ≡ true → Refused (with_turn_too_many claimed)
@@ -61,9 +61,9 @@ turn_too_many_refused claimed = row_refused (with_turn_too_many claimed) (turn_t
 pub searches_refused : (anything : Labelled) → All Refused (wrong_searches anything)
 searches_refused anything =
     let refused-always = book_a_refused (leaving (Err NoNode) unlabelled) refl in
-    let said-only = book_a_refused (leaving Done unlabelled) refl in
-    let first-passed-over = book_a_refused (leaving Done without_the_first) refl in
-    let measured-by-links = turn_too_many_refused (leaving Done anything) refl in
+    let said-only = book_a_refused (leaving (Ok tt) unlabelled) refl in
+    let first-passed-over = book_a_refused (leaving (Ok tt) without_the_first) refl in
+    let measured-by-links = turn_too_many_refused (leaving (Ok tt) anything) refl in
     (refused-always, (said-only, (first-passed-over, (measured-by-links, tt))))
 
 -- two turns alike have one key, and no key is less than itself

@@ -20,7 +20,7 @@ use Rattle.search.specs.steps.Tables.{Sized}
 use Rattle.book.specs.declared.Refusal.TheVariants.{LabelLength, NoNode}
 
 -- good with these counts and good with those
-pub own_counts : {own counts : Counts} → Ok own ≡ Ok counts → own ≡ counts
+pub own_counts : {own counts : Counts} → ◌≡◌ {A = Checked} (Ok own) (Ok counts) → own ≡ counts
 own_counts e = cc
 
 pub node_passed : (checked : Checked) (node : ℕ) (counts : Counts) → node_test checked node ≡ Ok counts → (checked ≡ Ok counts) × (node < counts.nodes)

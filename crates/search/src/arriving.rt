@@ -36,6 +36,7 @@ fn better_of(
 }
 
 // The best label of the links that enter a destination, whose back is the link's own number; or no walk.
+#[tactic(auto, unfolding(crate::specs::steps::Arriving::best_into))]
 fn best_label(view: Viewed<'_>, destination: NodeNumber, links: Labels<'_>) -> Label
     requires { Sized view.book.counts.links (labels_in links) }
     ensures { as_entry result ≡ best_into (view_in view.entry).to links.entry.cost.now links.entry.links.now destination.0 view.entry.book.counts.links }
@@ -48,6 +49,7 @@ fn best_label(view: Viewed<'_>, destination: NodeNumber, links: Labels<'_>) -> L
 }
 
 // Document 01's last link of the route: of the links that enter the destination the best, with its figures.
+#[tactic(auto, unfolding(crate::specs::steps::Arriving::arrival_of))]
 pub fn best_into(view: Viewed<'_>, destination: NodeNumber, links: Labels<'_>) -> Option<Arrival>
     requires { Sized view.book.counts.links (labels_in links) }
     ensures { result ≡ arrival_of (best_into (view_in view.entry).to links.entry.cost.now links.entry.links.now destination.0 view.entry.book.counts.links) }

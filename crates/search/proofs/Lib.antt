@@ -18,6 +18,7 @@ pub mod TrailLaws
 pub mod JudgedLeast
 pub mod Judged
 pub mod Tested
+pub mod TestsInTurn
 pub mod RouteLaws
 pub mod RouteRoom
 pub mod RouteAccounted

@@ -30,7 +30,7 @@ pub node_leaves : (checked : Checked) (node : ℕ) (found : Refusal) → checked
 unfolding node_test
 node_leaves checked node found e = rw e
 
-length_leaves : (checked : Checked) (turns links : Table) (found : Refusal) → checked ≡ Err found → length_test checked turns links ≡ Err found
+pub length_leaves : (checked : Checked) (turns links : Table) (found : Refusal) → checked ≡ Err found → length_test checked turns links ≡ Err found
 unfolding length_test
 length_leaves checked turns links found e = rw e
 

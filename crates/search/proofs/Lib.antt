@@ -17,6 +17,7 @@ pub mod Arrivals
 pub mod TrailLaws
 pub mod JudgedLeast
 pub mod Judged
+pub mod OwnWalks
 pub mod Tested
 pub mod TestsInTurn
 pub mod RouteLaws

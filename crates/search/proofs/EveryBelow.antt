@@ -1,10 +1,9 @@
 -- A test that holds of every number below a bound holds of each, and fails where one fails; so a loop tests them one after the other.
 use Prim.Native.Nat.{ℕ, zero, suc, ◌+◌, ◌≤◌, ◌<◌}
 use mathlib.Core.Path.{◌≡◌, refl, sym, ◌∙◌}
-use mathlib.Core.Bool.{Bool, true, false, not}
+use mathlib.Core.Bool.{Bool, true, false}
 use native.Mathlib.Omega.{arith}
 use native.Mathlib.Numerals.{add-one}
-use borrow.Author.Tests.{not-true, not-false}
 use Rattle.book.proofs.Limits.{both}
 use Rattle.walk.proofs.theory.Laws.{one_more}
 use Rattle.search.specs.steps.Judging.{every_below}
@@ -42,11 +41,11 @@ module _ (test : ℕ → Bool) where
       let same : k ≡ n = omega (arith, passed.0) in
       sym (rw same at passed.1)
 
-  -- t is what the code's test of k gave, and the code asked whether it is false
+  -- t is what the code's test of k gave
   module _ (n k : ℕ) (h : k < n) {t : Bool} (tested : t ≡ test k) where
-    pub one_more_passed : not t ≡ false → Passed n k → Passed n (k + 1)
+    pub one_more_passed : t ≡ true → Passed n k → Passed n (k + 1)
     unfolding every_below
-    one_more_passed held passed = (omega arith, rw (add-one k, passed.1, ← tested, not-false t held))
+    one_more_passed held passed = (omega arith, rw (add-one k, passed.1, ← tested, held))
 
-    pub one_failed : not t ≡ true → false ≡ every_below test n
-    one_failed failed = sym (every_fails n k h (sym tested ∙ not-true _ failed))
+    pub one_failed : t ≡ false → false ≡ every_below test n
+    one_failed failed = sym (every_fails n k h (sym tested ∙ failed))

@@ -10,7 +10,7 @@ use lib.Dec.{eqb, ltb}
 use lib.ListN.{length, get_or, get_or-eq_default}
 use borrow.Author.Tests.{eq-eqb}
 use Rattle.book.specs.declared.Counts.{Counts}
-use Rattle.book.specs.declared.Checked.TheVariants.{Good}
+use Rattle.std.specs.Prelude.{Ok}
 use Rattle.book.specs.Tables.{turn_table}
 use Rattle.book.specs.Entries.{barred, seconds_good, line_headway, link_from, link_to, link_line, link_ride, turn_walk}
 use Rattle.book.specs.Changes.{with_walk}
@@ -25,8 +25,7 @@ use Rattle.walk.proofs.theory.Laws.{clash}
 use Rattle.walk.proofs.Filling.{up_to_length, up_to_at}
 use Rattle.walk.proofs.GoodView.{good_view}
 use Rattle.walk.proofs.LabelLaws.{turn_one, link_one}
-use Rattle.edit.specs.declared.Edited.TheVariants.{Done}
-use Rattle.edit.specs.Edit.{Edit, refused, untrue, done}
+use Rattle.edit.specs.Edit.{Edit, refused, untrue, done, altered}
 use Rattle.edit.specs.Demands.{Avoids, Untouched, avoided, no_walk, Keeps}
 use Rattle.edit.proofs.Tested.{edit_passed}
 use Rattle.edit.proofs.Determined.{LabelsOf}
@@ -185,7 +184,7 @@ module _ (U : View) (walks : ℕ → ℕ) (closed : ℕ) (kept : (t : ℕ) → (
   link_both_true r l h = both_true (LinkWalk U r l) (LinkWalk after r l) (link_lessened r l) (link_back U) (link_back after) (λ links. refl) h
 
 -- a good book with one change closed
-module _ (book : List ℕ) (counts : Counts) (closed : ℕ) (checked : check_of book ≡ Good counts) (within : closed < counts.turns) where
+module _ (book : List ℕ) (counts : Counts) (closed : ℕ) (checked : check_of book ≡ Ok counts) (within : closed < counts.turns) where
   abbrev shut : List ℕ
   shut = with_walk book counts closed barred
 
@@ -245,7 +244,7 @@ module _ (book : List ℕ) (counts : Counts) (closed : ℕ) (checked : check_of 
         let (found, then, later) = link_both_true before now.walk closed walk_kept walk_closed r l h in
         subst (TrueLink now r l) (link_one before (good_view book counts (walks_of book counts) checked) few r l found entry then true-before) (subst (λ (seen : View). TrueLink seen r l found) view_same later)
 
-    shut_good : check_of shut ≡ Good counts
+    shut_good : check_of shut ≡ Ok counts
     unfolding seconds_good
     shut_good = wrote.good refl
 
@@ -258,13 +257,13 @@ module _ (book : List ℕ) (counts : Counts) (closed : ℕ) (checked : check_of 
         }
 
 -- CLOSING A CHANGE alters no entry whose chosen walk avoided it, and none that had no walk
-pub closing_keeps : (book : List ℕ) (counts : Counts) → check_of book ≡ Good counts → (r closed : ℕ) (turns links : Table) (altered_turns altered_links : ℕ) (book-after : List ℕ) (turns-after links-after : Table)
-    → Edit book r closed barred turns links (Done altered_turns altered_links) book-after turns-after links-after → Keeps (view_of book counts) r closed turns links turns-after links-after
+pub closing_keeps : (book : List ℕ) (counts : Counts) → check_of book ≡ Ok counts → (r closed : ℕ) (turns links : Table) (altered_turns altered_links : ℕ) (book-after : List ℕ) (turns-after links-after : Table)
+    → Edit book r closed barred turns links (altered altered_turns altered_links) book-after turns-after links-after → Keeps (view_of book counts) r closed turns links turns-after links-after
 closing_keeps book counts checked r closed turns links n m book-after t l (refused found e a f g h) = clash (cc)
 closing_keeps book counts checked r closed turns links n m book-after t l (untrue own e untrue_labels a f g h) = clash (cc)
 closing_keeps book counts checked r closed turns links n m book-after t l (done own e labels f labels-after a) =
     let passed = edit_passed book r closed barred turns links own e in
-    let own-checked : check_of book ≡ Good own = passed.checked in
+    let own-checked : check_of book ≡ Ok own = passed.checked in
     let same : own ≡ counts = cc in
     subst (λ (x : Counts). Keeps (view_of book x) r closed turns links t l) same
     (labels_keep book own closed own-checked passed.listed r turns links t l labels (subst (λ (seen : List ℕ). LabelsOf seen r t l own) f labels-after))

@@ -3,7 +3,7 @@ use Prim.Native.Nat.{ℕ}
 use mathlib.Core.Path.{◌≡◌, sym, ◌∙◌, subst}
 use mathlib.Core.List.{List}
 use Rattle.book.specs.declared.Counts.{Counts}
-use Rattle.book.specs.declared.Checked.TheVariants.{Good}
+use Rattle.std.specs.Prelude.{Ok}
 use Rattle.book.specs.Changes.{with_walk}
 use Rattle.book.specs.Check.{check_of}
 use Rattle.book.proofs.WalkWritten.{walk_written}
@@ -11,8 +11,7 @@ use Rattle.walk.specs.View.{view_of}
 use Rattle.walk.specs.Labels.{Table, TrueLabels}
 use Rattle.walk.proofs.theory.Laws.{clash}
 use Rattle.search.proofs.Determined.{labels_one}
-use Rattle.edit.specs.declared.Edited.{Edited}
-use Rattle.edit.specs.Edit.{edit_tests, Edit, refused, untrue, done}
+use Rattle.edit.specs.Edit.{edit_tests, Edit, refused, untrue, done, EditAnswer}
 use Rattle.edit.proofs.Tested.{edit_passed}
 
 -- the labels of a book, as a statement about its counts
@@ -20,17 +19,17 @@ abbrev pub LabelsOf : List ℕ → ℕ → Table → Table → Counts → Type 0
 LabelsOf book r turns links counts = TrueLabels (view_of book counts) r turns links
 
 -- the edited book is good, with the counts from before
-pub edited_good : (book : List ℕ) (r turn walk : ℕ) (turns links : Table) (counts : Counts) → edit_tests book r turn walk turns links ≡ Good counts → check_of (with_walk book counts turn walk) ≡ Good counts
+pub edited_good : (book : List ℕ) (r turn walk : ℕ) (turns links : Table) (counts : Counts) → edit_tests book r turn walk turns links ≡ Ok counts → check_of (with_walk book counts turn walk) ≡ Ok counts
 edited_good book r turn walk turns links counts h =
     let passed = edit_passed book r turn walk turns links counts h in
     (walk_written book counts turn walk passed.checked passed.listed).good passed.allowed
 
 -- two outcomes that the contract allows for one input are equal
 module _ (book : List ℕ) (r turn walk : ℕ) (turns links : Table) where
-  counts_one : (counts other : Counts) → edit_tests book r turn walk turns links ≡ Good counts → edit_tests book r turn walk turns links ≡ Good other → other ≡ counts
+  counts_one : (counts other : Counts) → edit_tests book r turn walk turns links ≡ Ok counts → edit_tests book r turn walk turns links ≡ Ok other → other ≡ counts
   counts_one counts other a b = cc
 
-  pub edit_determined : (one other : Edited) (book-one book-other : List ℕ) (turns-one links-one turns-other links-other : Table)
+  pub edit_determined : (one other : EditAnswer) (book-one book-other : List ℕ) (turns-one links-one turns-other links-other : Table)
       → Edit book r turn walk turns links one book-one turns-one links-one → Edit book r turn walk turns links other book-other turns-other links-other
       → (one ≡ other) × (book-one ≡ book-other) × (turns-one ≡ turns-other) × (links-one ≡ links-other)
   edit_determined one other b b' t l t' l' (refused found e a f g h) (refused found' e' a' f' g' h') = (cc, f ∙ sym f', g ∙ sym g', h ∙ sym h')

@@ -14,9 +14,7 @@ use Rattle.walk.specs.Labelled.{as_table, given, shut}
 use Rattle.walk.proofs.CaseTests.{differ}
 use Rattle.walk.proofs.LabelledTrue.{shut_good, given_true, shut_true, right_alone}
 use Rattle.search.specs.Tests.{node_test, fits, length_test}
-use Rattle.edit.specs.declared.Edited.{Edited}
-use Rattle.edit.specs.declared.Edited.TheVariants.{Done}
-use Rattle.edit.specs.Edit.{turn_test, edit_given_back, done}
+use Rattle.edit.specs.Edit.{turn_test, edit_given_back, done, altered, EditAnswer}
 use Rattle.edit.specs.RefusedEdits.{Outcome, Row, wiped, leaving, closing, reopening, wrong_edits, Allows, Refused}
 use Rattle.edit.proofs.Determined.{edit_determined}
 
@@ -30,12 +28,12 @@ unfolding node_test turn_test fits length_test seconds_good with_number differin
 reopening_right claimed = done counts_a (rw (shut_good) refl) shut_true refl given_true refl
 
 -- the numbers that an edit leaves and answers, its counts last
-abbrev numbers_of : Edited → List ℕ → Table → Table → List ℕ
+abbrev numbers_of : EditAnswer → List ℕ → Table → Table → List ℕ
 numbers_of answer book turns links =
     book ++ (turns.cost ++ (turns.links ++ (turns.back ++ (links.cost ++ (links.links ++ (links.back ++ ((edit_given_back answer).turns ∷ (edit_given_back answer).links ∷ [])))))))
 
 abbrev numbers_in : Outcome → List ℕ
-numbers_in outcome = numbers_of (Done outcome.altered_turns outcome.altered_links) outcome.after.book (as_table outcome.after.turns) (as_table outcome.after.links)
+numbers_in outcome = numbers_of (altered outcome.altered_turns outcome.altered_links) outcome.after.book (as_table outcome.after.turns) (as_table outcome.after.links)
 
 one_outcome : (row : Row) (one other : Outcome) → Allows row one → Allows row other → numbers_in one ≡ numbers_in other
 one_outcome row one other a b =

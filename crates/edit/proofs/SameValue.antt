@@ -8,7 +8,7 @@ use native.Mathlib.Omega.{arith}
 use lib.ListN.{length, get_or, set, drop, length-set}
 use lib.Seq.{ext_get_or, get_or-set_same, get_or-set_other, get_or-take, get_or-drop}
 use Rattle.book.specs.declared.Counts.{Counts}
-use Rattle.book.specs.declared.Checked.TheVariants.{Good}
+use Rattle.std.specs.Prelude.{Ok}
 use Rattle.book.specs.Number.{number_at, with_number}
 use Rattle.book.specs.Entries.{link_from, link_to, link_line, link_ride, turn_walk, seconds_good}
 use Rattle.book.specs.Tables.{join_bytes, turns_at, pairs_at, part, turn_table}
@@ -25,8 +25,7 @@ use Rattle.walk.proofs.Filling.{up_to_at}
 use Rattle.walk.proofs.GoodView.{good_view}
 use Rattle.walk.proofs.Agreement.{Agree, turn_agrees, link_agrees}
 use Rattle.search.proofs.Determined.{labels_one}
-use Rattle.edit.specs.declared.Edited.{Edited}
-use Rattle.edit.specs.Edit.{Edit, edit_tests, refused, untrue, done}
+use Rattle.edit.specs.Edit.{Edit, edit_tests, refused, untrue, done, EditAnswer}
 use Rattle.edit.specs.Demands.{SameValue}
 use Rattle.edit.proofs.Tested.{edit_passed}
 
@@ -36,7 +35,7 @@ unfolding differing
 none_differ table zero = refl
 none_differ table (suc k) = rw (none_differ table k, entry_same (table k))
 
-module _ (book : List ℕ) (counts : Counts) (turn walk : ℕ) (checked : check_of book ≡ Good counts) (within : turn < counts.turns) (allowed : seconds_good walk ≡ true) (stored : turn_walk (turn_table book counts) turn ≡ walk) where
+module _ (book : List ℕ) (counts : Counts) (turn walk : ℕ) (checked : check_of book ≡ Ok counts) (within : turn < counts.turns) (allowed : seconds_good walk ≡ true) (stored : turn_walk (turn_table book counts) turn ≡ walk) where
   abbrev edited : List ℕ
   edited = with_walk book counts turn walk
 
@@ -122,14 +121,14 @@ part_number bytes start end i h =
     )
 
 -- the walk that is stored, where it stands in the book
-stored_at : (book : List ℕ) (counts : Counts) (turn : ℕ) → check_of book ≡ Good counts → turn < counts.turns → ((i : ℕ) → get_or book i 0 < 256) → with_walk book counts turn (turn_walk (turn_table book counts) turn) ≡ book
+stored_at : (book : List ℕ) (counts : Counts) (turn : ℕ) → check_of book ≡ Ok counts → turn < counts.turns → ((i : ℕ) → get_or book i 0 < 256) → with_walk book counts turn (turn_walk (turn_table book counts) turn) ≡ book
 stored_at book counts turn checked within small =
     let at : ℕ = turns_at counts + (join_bytes * turn + 4) in
     let size = (good_book book counts checked).size in
     ap (with_number book at) (part_number book (turns_at counts) (pairs_at counts) (join_bytes * turn + 4) (omega arith)) ∙ written_back book at small (omega arith)
 
 -- an edit to the value already there is done with 0 and 0, and labels and book are as they were
-pub same_value : (book : List ℕ) (r turn walk : ℕ) (turns links : Table) (answer : Edited) (book-after : List ℕ) (turns-after links-after : Table) (counts : Counts) → edit_tests book r turn walk turns links ≡ Good counts → TrueLabels (view_of book counts) r turns links
+pub same_value : (book : List ℕ) (r turn walk : ℕ) (turns links : Table) (answer : EditAnswer) (book-after : List ℕ) (turns-after links-after : Table) (counts : Counts) → edit_tests book r turn walk turns links ≡ Ok counts → TrueLabels (view_of book counts) r turns links
     → turn_walk (turn_table book counts) turn ≡ walk → Edit book r turn walk turns links answer book-after turns-after links-after
     → SameValue book turns links answer book-after turns-after links-after
 same_value book r turn walk turns links answer book-after turns-after links-after counts tested labels stored (refused found e f g h i) = clash (cc (tested, e))

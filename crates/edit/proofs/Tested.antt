@@ -6,10 +6,9 @@ use mathlib.Core.Bool.{true, ◌&&◌}
 use lib.Dec.{ltb}
 use borrow.Author.Tests.{ltb-true}
 use Rattle.book.specs.declared.Counts.{Counts}
-use Rattle.book.specs.declared.Checked.{Checked}
-use Rattle.book.specs.declared.Checked.TheVariants.{Good, Refused}
+use Rattle.std.specs.Prelude.{Ok, Err}
 use Rattle.book.specs.Entries.{seconds_good}
-use Rattle.book.specs.Check.{check_of, refusal}
+use Rattle.book.specs.Check.{Checked, check_of}
 use Rattle.book.proofs.Limits.{both}
 use Rattle.book.proofs.Passes.{passed}
 use Rattle.walk.specs.Labels.{Table}
@@ -18,12 +17,13 @@ use Rattle.search.specs.Tests.{node_test, length_test}
 use Rattle.search.specs.steps.Tables.{Sized}
 use Rattle.search.proofs.Tested.{own_counts, node_passed, length_passed}
 use Rattle.edit.specs.Edit.{turn_test, edit_tests}
+use Rattle.book.specs.declared.Refusal.TheVariants.{Change}
 
-pub turn_passed : (checked : Checked) (turn walk : ℕ) (counts : Counts) → turn_test checked turn walk ≡ Good counts → (checked ≡ Good counts) × (turn < counts.turns) × (seconds_good walk ≡ true)
+pub turn_passed : (checked : Checked) (turn walk : ℕ) (counts : Counts) → turn_test checked turn walk ≡ Ok counts → (checked ≡ Ok counts) × (turn < counts.turns) × (seconds_good walk ≡ true)
 unfolding turn_test
-turn_passed (Refused found) turn walk counts h = clash (cc)
-turn_passed (Good own) turn walk counts h =
-    let (held, same) = passed (ltb turn own.turns && seconds_good walk) (refusal 11 0) (Good own) h in
+turn_passed (Err found) turn walk counts h = clash (cc)
+turn_passed (Ok own) turn walk counts h =
+    let (held, same) = passed (ltb turn own.turns && seconds_good walk) Change (Ok own) h in
     let (inside, allowed) = both (ltb turn own.turns) (seconds_good walk) held in
     (same, rw (own_counts same) at (ltb-true turn own.turns inside), allowed)
 
@@ -34,14 +34,14 @@ edit_tested book r turn walk turns links e f g h = rw (← e, ← f, ← g) h
 
 -- what an edit may count on once the tests have passed
 pub record EditPassed (book : List ℕ) (r turn walk : ℕ) (turns links : Table) (counts : Counts) : Type 0 where
-  pub checked : check_of book ≡ Good counts
+  pub checked : check_of book ≡ Ok counts
   pub origin : r < counts.nodes
   pub listed : turn < counts.turns
   pub allowed : seconds_good walk ≡ true
   pub turns_sized : Sized counts.turns turns
   pub links_sized : Sized counts.links links
 
-pub edit_passed : (book : List ℕ) (r turn walk : ℕ) (turns links : Table) (counts : Counts) → edit_tests book r turn walk turns links ≡ Good counts → EditPassed book r turn walk turns links counts
+pub edit_passed : (book : List ℕ) (r turn walk : ℕ) (turns links : Table) (counts : Counts) → edit_tests book r turn walk turns links ≡ Ok counts → EditPassed book r turn walk turns links counts
 edit_passed book r turn walk turns links counts h =
     let (turned, (turns_sized, links_sized)) = length_passed (turn_test (node_test (check_of book) r) turn walk) turns links counts h in
     let (noded, listed, allowed) = turn_passed (node_test (check_of book) r) turn walk counts turned in

@@ -6,8 +6,8 @@ use mathlib.Core.List.{List}
 use mathlib.Core.Bool.{Bool, true, false}
 use native.Mathlib.Omega.{arith}
 use Rattle.book.specs.declared.Counts.{Counts}
-use Rattle.book.specs.declared.Checked.TheVariants.{Good}
-use Rattle.book.specs.Check.{check_of, refusal}
+use Rattle.std.specs.Prelude.{Ok, Err}
+use Rattle.book.specs.Check.{check_of}
 use Rattle.book.proofs.GoodBook.{good_book}
 use Rattle.walk.specs.View.{View, view_of, walks_of}
 use Rattle.walk.specs.Labels.{Entry, Table, entry_at, TrueTurn, TrueLink, TrueTable, TrueLabels}
@@ -17,17 +17,14 @@ use Rattle.walk.proofs.CaseTests.{same_entry_lem, entry_same}
 use Rattle.walk.proofs.GoodView.{good_view}
 use Rattle.walk.proofs.LabelLaws.{turn_one, link_one}
 use Rattle.walk.proofs.Existence.{turn_exists, link_exists}
-use Rattle.search.specs.declared.Routed.{Routed}
-use Rattle.search.specs.declared.Routed.TheVariants.{Refused as RouteRefused}
-use Rattle.search.specs.Route.{route_tests, route_given_back, RouteOnward, no_walk, no_room, done as routed, Routing, refused as route-refused, untrue as route-untrue, onward}
+use Rattle.search.specs.Route.{route_tests, route_given_back, RouteOnward, no_walk, no_room, done as routed, Routing, refused as route-refused, untrue as route-untrue, onward, RouteAnswer}
 use Rattle.search.specs.steps.Tables.{Sized}
 use Rattle.search.proofs.Tested.{route_passed}
-use Rattle.edit.specs.declared.Edited.{Edited}
-use Rattle.edit.specs.declared.Edited.TheVariants.{Refused as EditRefused}
-use Rattle.edit.specs.Edit.{edit_tests, Edit, refused, untrue, done}
+use Rattle.edit.specs.Edit.{edit_tests, Edit, refused, untrue, done, EditAnswer}
 use Rattle.edit.specs.Demands.{Differs, SomeDiffers}
 use Rattle.edit.proofs.Tested.{edit_passed}
 use Rattle.edit.proofs.Determined.{LabelsOf}
+use Rattle.book.specs.declared.Refusal.TheVariants.{UntrueLabel}
 
 module _ (count : ℕ) (TrueAt : ℕ → Entry → Type 0) (exists : (k : ℕ) → k < count → (e : Entry) × TrueAt k e) (table : Table) where
   entry_or_differs : (k : ℕ) → k < count → TrueAt k (entry_at table k) ⊎ Differs count TrueAt table
@@ -60,7 +57,7 @@ differs_untrue : (count : ℕ) (TrueAt : ℕ → Entry → Type 0) → ((k : ℕ
 differs_untrue count TrueAt one table (k, h, e, is_true, differs) is-true-table = differs (one k (entry_at table k) e (is-true-table.entry k h) is_true)
 
 -- tables of a good book's lengths are its labels, or some entry differs from the true one
-module _ (book : List ℕ) (counts : Counts) (checked : check_of book ≡ Good counts) (r : ℕ) (turns links : Table) (turns_sized : Sized counts.turns turns) (links_sized : Sized counts.links links) where
+module _ (book : List ℕ) (counts : Counts) (checked : check_of book ≡ Ok counts) (r : ℕ) (turns links : Table) (turns_sized : Sized counts.turns turns) (links_sized : Sized counts.links links) where
   abbrev U : View
   U = view_of book counts
 
@@ -99,8 +96,8 @@ through : {A B C : Type 0} → A ↔ B → B ↔ C → A ↔ C
 through f g = (λ a. g.0 (f.0 a), λ c. f.1 (g.1 c))
 
 -- AN EDIT whose other tests pass gives 13 exactly when the labels are not true
-module _ (book : List ℕ) (r turn walk : ℕ) (turns links : Table) (answer : Edited) (book-after : List ℕ) (turns-after links-after : Table) (counts : Counts) (tested : edit_tests book r turn walk turns links ≡ Good counts) where
-  pub edit_turned_away : Edit book r turn walk turns links answer book-after turns-after links-after → (answer ≡ EditRefused (refusal 13 0)) ↔ (TrueLabels (view_of book counts) r turns links → ⊥)
+module _ (book : List ℕ) (r turn walk : ℕ) (turns links : Table) (answer : EditAnswer) (book-after : List ℕ) (turns-after links-after : Table) (counts : Counts) (tested : edit_tests book r turn walk turns links ≡ Ok counts) where
+  pub edit_turned_away : Edit book r turn walk turns links answer book-after turns-after links-after → (answer ≡ Err UntrueLabel) ↔ (TrueLabels (view_of book counts) r turns links → ⊥)
   edit_turned_away (refused found e a f g h) = clash (cc)
   edit_turned_away (untrue own e n a f g h) =
       let same : own ≡ counts = cc in
@@ -110,20 +107,20 @@ module _ (book : List ℕ) (r turn walk : ℕ) (turns links : Table) (answer : E
       (λ thirteen. clash (cc), λ not-true. absurd (not-true (subst (LabelsOf book r turns links) same labels)))
 
   -- and so exactly when some entry differs from the true one
-  pub edit_differs : Edit book r turn walk turns links answer book-after turns-after links-after → (answer ≡ EditRefused (refusal 13 0)) ↔ SomeDiffers (view_of book counts) r turns links
+  pub edit_differs : Edit book r turn walk turns links answer book-after turns-after links-after → (answer ≡ Err UntrueLabel) ↔ SomeDiffers (view_of book counts) r turns links
   edit_differs outcome =
       let passed = edit_passed book r turn walk turns links counts tested in
       through (edit_turned_away outcome) (untrue_differs book counts passed.checked r turns links passed.turns_sized passed.links_sized)
 
 -- A ROUTE whose other tests pass gives 13 exactly when the labels are not true
-module _ (book : List ℕ) (r s : ℕ) (turns links : Table) (buffer : List ℕ) (answer : Routed) (after : List ℕ) (counts : Counts) (tested : route_tests book r s turns links ≡ Good counts) where
+module _ (book : List ℕ) (r s : ℕ) (turns links : Table) (buffer : List ℕ) (answer : RouteAnswer) (after : List ℕ) (counts : Counts) (tested : route_tests book r s turns links ≡ Ok counts) where
   -- 14, 15 or done
-  onward_not_turned_away : (U : View) → RouteOnward U r s buffer answer after → answer ≡ RouteRefused (refusal 13 0) → ⊥
-  onward_not_turned_away U (no_walk n a f) e = omega (arith, ap (λ (x : Routed). (route_given_back x).number) (sym a ∙ e))
-  onward_not_turned_away U (no_room w route short a f) e = omega (arith, ap (λ (x : Routed). (route_given_back x).number) (sym a ∙ e))
-  onward_not_turned_away U (routed w route fits a f) e = omega (arith, ap (λ (x : Routed). (route_given_back x).number) (sym a ∙ e))
+  onward_not_turned_away : (U : View) → RouteOnward U r s buffer answer after → answer ≡ Err UntrueLabel → ⊥
+  onward_not_turned_away U (no_walk n a f) e = omega (arith, ap (λ (x : RouteAnswer). (route_given_back x).number) (sym a ∙ e))
+  onward_not_turned_away U (no_room w route short a f) e = omega (arith, ap (λ (x : RouteAnswer). (route_given_back x).number) (sym a ∙ e))
+  onward_not_turned_away U (routed w route fits a f) e = omega (arith, ap (λ (x : RouteAnswer). (route_given_back x).number) (sym a ∙ e))
 
-  pub route_turned_away : Routing book r s turns links buffer answer after → (answer ≡ RouteRefused (refusal 13 0)) ↔ (TrueLabels (view_of book counts) r turns links → ⊥)
+  pub route_turned_away : Routing book r s turns links buffer answer after → (answer ≡ Err UntrueLabel) ↔ (TrueLabels (view_of book counts) r turns links → ⊥)
   route_turned_away (route-refused found e a f) = clash (cc)
   route_turned_away (route-untrue own e n a f) =
       let same : own ≡ counts = cc in
@@ -132,7 +129,7 @@ module _ (book : List ℕ) (r s : ℕ) (turns links : Table) (buffer : List ℕ)
       let same : own ≡ counts = cc in
       (λ thirteen. absurd (onward_not_turned_away (view_of book own) w thirteen), λ not-true. absurd (not-true (subst (LabelsOf book r turns links) same labels)))
 
-  pub route_differs : Routing book r s turns links buffer answer after → (answer ≡ RouteRefused (refusal 13 0)) ↔ SomeDiffers (view_of book counts) r turns links
+  pub route_differs : Routing book r s turns links buffer answer after → (answer ≡ Err UntrueLabel) ↔ SomeDiffers (view_of book counts) r turns links
   route_differs outcome =
       let (checked, (turns_sized, links_sized)) = route_passed book r s turns links counts tested in
       through (route_turned_away outcome) (untrue_differs book counts checked r turns links turns_sized links_sized)

@@ -1,32 +1,27 @@
 -- Demand 3: what the theorems about runs of edits, closing a change, labels that are turned away and an edit to the value already there say.
-use Rattle.std.specs.Prelude.{ℕ, ◌<◌, ◌≡◌, ◌⊎◌, List, get_or}
+use Rattle.std.specs.Prelude.{ℕ, ◌<◌, ◌≡◌, ◌⊎◌, List, get_or, Ok}
 use Rattle.book.specs.declared.Counts.{Counts}
-use Rattle.book.specs.declared.Checked.TheVariants.{Good}
 use Rattle.book.specs.Check.{check_of}
 use Rattle.book.specs.Changes.{Change, with_changes}
 use Rattle.walk.specs.View.{View, view_of}
 use Rattle.walk.specs.Walks.{turns_of}
 use Rattle.walk.specs.Labels.{Chosen, TurnWalk, LinkWalk, Entry, Table, entry_at, TrueTurn, TrueLink, TrueLabels}
 use Rattle.walk.specs.Cases.{All}
-use Rattle.search.specs.declared.Searched.{Searched}
-use Rattle.search.specs.declared.Searched.TheVariants.{Done as SearchDone}
-use Rattle.search.specs.Search.{Search}
-use Rattle.edit.specs.declared.Edited.{Edited}
-use Rattle.edit.specs.declared.Edited.TheVariants.{Done}
-use Rattle.edit.specs.Edit.{edit_given_back}
+use Rattle.search.specs.Search.{Search, Searched}
+use Rattle.edit.specs.Edit.{edit_given_back, altered, EditAnswer}
 
 -- an answer that does not turn the labels away
-abbrev pub NotTurnedAway : Edited → Type 0
+abbrev pub NotTurnedAway : EditAnswer → Type 0
 NotTurnedAway answer = (edit_given_back answer).number ≡ 13 → ⊥
 
 -- what a run from a good book and its true labels leaves
-pub record RunHolds (r : ℕ) (book : List ℕ) (counts : Counts) (answers : List Edited) (changes : List Change) (last : List ℕ) (turns-last links-last : Table) : Type 0 where
+pub record RunHolds (r : ℕ) (book : List ℕ) (counts : Counts) (answers : List EditAnswer) (changes : List Change) (last : List ℕ) (turns-last links-last : Table) : Type 0 where
   -- exactly the done edits, in order
   pub edits : last ≡ with_changes book counts changes
-  pub good : check_of last ≡ Good counts
+  pub good : check_of last ≡ Ok counts
   pub labels : TrueLabels (view_of last counts) r turns-last links-last
   -- what any fresh search of the last book leaves
-  pub fresh : (turns links : Table) (answer : Searched) (turns-fresh links-fresh : Table) → Search last r turns links answer turns-fresh links-fresh → answer ≡ SearchDone → (turns-fresh ≡ turns-last) × (links-fresh ≡ links-last)
+  pub fresh : (turns links : Table) (answer : Searched) (turns-fresh links-fresh : Table) → Search last r turns links answer turns-fresh links-fresh → answer ≡ (Ok tt) → (turns-fresh ≡ turns-last) × (links-fresh ≡ links-last)
   -- no label that an edit left is turned away
   pub not_turned_away : All NotTurnedAway answers
 
@@ -53,8 +48,8 @@ abbrev pub SomeDiffers : View → ℕ → Table → Table → Type 0
 SomeDiffers U r turns links = Differs U.turns (TrueTurn U r) turns ⊎ Differs U.links (TrueLink U r) links
 
 -- what an edit to the value already there answers and leaves; a byte is below 256
-pub record SameValue (book : List ℕ) (turns links : Table) (answer : Edited) (book-after : List ℕ) (turns-after links-after : Table) : Type 0 where
-  pub answered : answer ≡ Done 0 0
+pub record SameValue (book : List ℕ) (turns links : Table) (answer : EditAnswer) (book-after : List ℕ) (turns-after links-after : Table) : Type 0 where
+  pub answered : answer ≡ altered 0 0
   pub turns_kept : turns-after ≡ turns
   pub links_kept : links-after ≡ links
   pub book_kept : ((i : ℕ) → get_or book i 0 < 256) → book-after ≡ book

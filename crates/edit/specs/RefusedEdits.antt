@@ -4,8 +4,7 @@ use Rattle.book.specs.Entries.{barred}
 use Rattle.walk.specs.Labels.{no_entry, start_back}
 use Rattle.walk.specs.Cases.{entry}
 use Rattle.walk.specs.Labelled.{Labelled, as_table, given, shut, RightAlone}
-use Rattle.edit.specs.declared.Edited.TheVariants.{Done}
-use Rattle.edit.specs.Edit.{Edit}
+use Rattle.edit.specs.Edit.{Edit, altered}
 
 -- the two counts of an edit that says it is done, and what it leaves
 pub record Outcome : Type 0 where
@@ -59,7 +58,7 @@ wrong_edits any-turns any-links =
 abbrev pub Allows : Row → Outcome → Type 0
 Allows row outcome =
     Edit row.before.book 0 row.turn row.walk (as_table row.before.turns) (as_table row.before.links)
-    (Done outcome.altered_turns outcome.altered_links) outcome.after.book (as_table outcome.after.turns) (as_table outcome.after.links)
+    (altered outcome.altered_turns outcome.altered_links) outcome.after.book (as_table outcome.after.turns) (as_table outcome.after.links)
 
 abbrev pub Refused : Row → Type 0
 Refused row = RightAlone (Allows row) row.right row.claimed

@@ -1,32 +1,22 @@
 // How many entries differ in any field before and after.
 ghost use Rattle.std.specs.Prelude.{◌≡◌, length};
-ghost use Rattle.walk.specs.Labels.{entry_at, three};
-ghost use Rattle.walk.specs.Counting.{one_unless, differing};
+ghost use Rattle.walk.specs.Labels.{entry_at};
+ghost use Rattle.walk.specs.Counting.{differing};
+ghost use Rattle.search.specs.Lent.{labels_in};
 ghost use Rattle.search.specs.steps.Tables.{Sized};
 ghost use Rattle.edit.specs.steps.KeptLabels.{kept_at};
 
-use super::keeping::kept_label;
-use search::{label_at, same_label};
+use search::{Label, Labels};
 
-fn one_unless(same: bool) -> usize
-    ensures { result ≡ one_unless same }
-{
-    if same { 0 } else { 1 }
-}
-
-pub fn count_differing(kept: &[u64], cost: &[u32], links: &[u16], back: &[u16]) -> usize
-    requires { Sized (length kept.now) (three cost.now links.now back.now) }
-    ensures { result ≡ differing (kept_at kept.now) (entry_at (three cost.now links.now back.now)) (length kept.now) }
+pub fn count_differing(kept: &[Label], labels: Labels<'_>) -> usize
+    requires { Sized (length kept.now) (labels_in labels) }
+    ensures { result ≡ differing (kept_at kept.now) (entry_at (labels_in labels.entry)) (length kept.now) }
 {
     let mut count = 0;
-    let mut entry = 0;
-    'entries: loop {
-        if kept.len() <= entry {
-            break 'entries count;
+    for entry in 0..kept.len() {
+        if !kept[entry].same_as(labels.at(entry)) {
+            count += 1;
         }
-        let before = kept_label(kept[entry]);
-        let after = label_at(cost, links, back, entry);
-        count += one_unless(same_label(before, after));
-        entry += 1;
     }
+    count
 }

@@ -1,7 +1,6 @@
 // Edit: the tests in order, then the write, a search of the edited book, and the counts.
-ghost use Rattle.std.specs.Prelude.{◌≡◌};
-ghost use Rattle.book.specs.declared.Checked.TheVariants.{Good};
-ghost use Rattle.walk.specs.Labels.{three};
+ghost use Rattle.std.specs.Prelude.{◌≡◌, Ok};
+ghost use Rattle.search.specs.Lent.{table_in, SameBuffers};
 ghost use Rattle.edit.specs.Edit.{turn_test, edit_tests, edit_given_back, Edit};
 ghost use Rattle.edit.specs.steps.KeptLabels.{KeptWhole};
 ghost use Rattle.edit.specs.steps.Onward.{Asked, Relabelled};
@@ -9,25 +8,26 @@ ghost use Rattle.edit.specs.steps.Onward.{Asked, Relabelled};
 use super::counting::count_differing;
 use super::keeping::keep_table;
 use super::{EditFigures, Edited};
-use book::{Checked, Counts, MOST_LINKS, MOST_TURNS, NodeNumber, Refusal, TurnNumber};
-use search::{check, labels_true, length_test, node_test, search, seconds_good, write_walk};
+use book::{CheckedBook, Counts, MOST_LINKS, MOST_TURNS, NodeNumber, Refusal, TurnNumber};
+use search::{
+    Label, LabelsMut, check, labels_true, length_test, node_test, search, seconds_good, write_walk,
+};
+
+const NOT_KEPT: Label = Label {
+    cost: 0,
+    links: 0,
+    back: 0,
+};
 
 // Test 11, after what the earlier tests answered.
-fn turn_test(checked: Checked, turn: TurnNumber, walk: u16) -> Checked
-    ensures { result ≡ turn_test checked turn.0 walk }
+#[tactic(auto, unfolding(crate::specs::Edit::turn_test))]
+fn turn_test(counts: Counts, turn: TurnNumber, walk: u16) -> Result<Counts, Refusal>
+    ensures { result ≡ turn_test (Ok counts) turn.0 walk }
 {
-    match checked {
-        Checked::Refused(found) => Checked::Refused(found),
-        Checked::Good(counts) => {
-            if !(((turn.0 as usize) < counts.turns) & seconds_good(walk)) {
-                return Checked::Refused(Refusal {
-                    number: 11,
-                    place: 0,
-                });
-            }
-            Checked::Good(counts)
-        }
+    if !(((turn.0 as usize) < counts.turns) & seconds_good(walk)) {
+        return Err(Refusal::Change);
     }
+    Ok(counts)
 }
 
 // The write and the labels of the edited book; what differs from the labels kept from before is counted.
@@ -37,27 +37,24 @@ fn relabel(
     origin: NodeNumber,
     turn: TurnNumber,
     walk: u16,
-    turn_cost: &mut [u32],
-    turn_links: &mut [u16],
-    turn_back: &mut [u16],
-    link_cost: &mut [u32],
-    link_links: &mut [u16],
-    link_back: &mut [u16],
-    turns_kept: &[u64],
-    links_kept: &[u64],
+    turns: &mut LabelsMut<'_>,
+    links: &mut LabelsMut<'_>,
+    turns_kept: &[Label],
+    links_kept: &[Label],
 ) -> Edited
-    requires asked { Asked book.old counts origin.0 turn.0 walk (three turn_cost.old turn_links.old turn_back.old) (three link_cost.old link_links.old link_back.old) }
-    requires kept_whole { KeptWhole counts.turns turns_kept.now (three turn_cost.old turn_links.old turn_back.old) }
-    requires kept_whole_2 { KeptWhole counts.links links_kept.now (three link_cost.old link_links.old link_back.old) }
-    ensures { Relabelled book.old counts origin.0 turn.0 walk (three turn_cost.old turn_links.old turn_back.old) (three link_cost.old link_links.old link_back.old) result book.new (three turn_cost.new turn_links.new turn_back.new) (three link_cost.new link_links.new link_back.new) }
+    requires asked { Asked book.old counts origin.0 turn.0 walk (table_in turns.old) (table_in links.old) }
+    requires turns_kept { KeptWhole counts.turns turns_kept.now (table_in turns.old) }
+    requires links_kept { KeptWhole counts.links links_kept.now (table_in links.old) }
+    ensures relabelled { Relabelled book.old counts origin.0 turn.0 walk (table_in turns.old) (table_in links.old) result book.new (table_in turns.new) (table_in links.new) }
+    ensures same { SameBuffers turns.old turns.new × SameBuffers links.old links.new }
 {
     write_walk(book, counts, turn, walk);
-    search(
-        book, origin, turn_cost, turn_links, turn_back, link_cost, link_links, link_back,
-    );
-    let turns = count_differing(turns_kept, turn_cost, turn_links, turn_back);
-    let links = count_differing(links_kept, link_cost, link_links, link_back);
-    Edited::Done(turns, links)
+    // the edited book passes the same tests, so that its search is done
+    let _ = search(book, origin, turns, links);
+    Edited {
+        turns: count_differing(turns_kept, turns.lent()),
+        links: count_differing(links_kept, links.lent()),
+    }
 }
 
 // The labels are kept first, in buffers as long as the book's counts.
@@ -67,36 +64,29 @@ fn edit_on(
     origin: NodeNumber,
     turn: TurnNumber,
     walk: u16,
-    turn_cost: &mut [u32],
-    turn_links: &mut [u16],
-    turn_back: &mut [u16],
-    link_cost: &mut [u32],
-    link_links: &mut [u16],
-    link_back: &mut [u16],
+    turns: &mut LabelsMut<'_>,
+    links: &mut LabelsMut<'_>,
 ) -> Edited
-    requires { Asked book.old counts origin.0 turn.0 walk (three turn_cost.old turn_links.old turn_back.old) (three link_cost.old link_links.old link_back.old) }
-    ensures { Relabelled book.old counts origin.0 turn.0 walk (three turn_cost.old turn_links.old turn_back.old) (three link_cost.old link_links.old link_back.old) result book.new (three turn_cost.new turn_links.new turn_back.new) (three link_cost.new link_links.new link_back.new) }
+    requires { Asked book.old counts origin.0 turn.0 walk (table_in turns.old) (table_in links.old) }
+    ensures relabelled { Relabelled book.old counts origin.0 turn.0 walk (table_in turns.old) (table_in links.old) result book.new (table_in turns.new) (table_in links.new) }
+    ensures same { SameBuffers turns.old turns.new × SameBuffers links.old links.new }
 {
-    let turns = counts.turns;
-    let links = counts.links;
-    let mut turns_kept = [0u64; MOST_TURNS];
-    let mut links_kept = [0u64; MOST_LINKS];
-    keep_table(turn_cost, turn_links, turn_back, &mut turns_kept[..turns]);
-    keep_table(link_cost, link_links, link_back, &mut links_kept[..links]);
+    let turn_count = counts.turns;
+    let link_count = counts.links;
+    let mut turns_kept = [NOT_KEPT; MOST_TURNS];
+    let mut links_kept = [NOT_KEPT; MOST_LINKS];
+    keep_table(turns.lent(), &mut turns_kept[..turn_count]);
+    keep_table(links.lent(), &mut links_kept[..link_count]);
     relabel(
         book,
         counts,
         origin,
         turn,
         walk,
-        turn_cost,
-        turn_links,
-        turn_back,
-        link_cost,
-        link_links,
-        link_back,
-        &turns_kept[..turns],
-        &links_kept[..links],
+        turns,
+        links,
+        &turns_kept[..turn_count],
+        &links_kept[..link_count],
     )
 }
 
@@ -107,28 +97,18 @@ fn edit_judged(
     origin: NodeNumber,
     turn: TurnNumber,
     walk: u16,
-    turn_cost: &mut [u32],
-    turn_links: &mut [u16],
-    turn_back: &mut [u16],
-    link_cost: &mut [u32],
-    link_links: &mut [u16],
-    link_back: &mut [u16],
-) -> Edited
-    requires { edit_tests book.old origin.0 turn.0 walk (three turn_cost.old turn_links.old turn_back.old) (three link_cost.old link_links.old link_back.old) ≡ Good counts }
-    ensures { Edit book.old origin.0 turn.0 walk (three turn_cost.old turn_links.old turn_back.old) (three link_cost.old link_links.old link_back.old) result book.new (three turn_cost.new turn_links.new turn_back.new) (three link_cost.new link_links.new link_back.new) }
+    turns: &mut LabelsMut<'_>,
+    links: &mut LabelsMut<'_>,
+) -> Result<Edited, Refusal>
+    requires { edit_tests book.old origin.0 turn.0 walk (table_in turns.old) (table_in links.old) ≡ Ok counts }
+    ensures edited { Edit book.old origin.0 turn.0 walk (table_in turns.old) (table_in links.old) result book.new (table_in turns.new) (table_in links.new) }
+    ensures same { SameBuffers turns.old turns.new × SameBuffers links.old links.new }
 {
-    if !labels_true(
-        book, counts, origin, turn_cost, turn_links, turn_back, link_cost, link_links, link_back,
-    ) {
-        return Edited::Refused(Refusal {
-            number: 13,
-            place: 0,
-        });
+    let checked = CheckedBook::carry(book, counts);
+    if !labels_true(checked, origin, turns.lent(), links.lent()) {
+        return Err(Refusal::UntrueLabel);
     }
-    edit_on(
-        book, counts, origin, turn, walk, turn_cost, turn_links, turn_back, link_cost, link_links,
-        link_back,
-    )
+    Ok(edit_on(book, counts, origin, turn, walk, turns, links))
 }
 
 // Document 01, "What can be asked": the turn's two walk bytes and the labels of the edited book, or nothing lent changes.
@@ -137,48 +117,33 @@ pub fn edit(
     origin: NodeNumber,
     turn: TurnNumber,
     walk: u16,
-    turn_cost: &mut [u32],
-    turn_links: &mut [u16],
-    turn_back: &mut [u16],
-    link_cost: &mut [u32],
-    link_links: &mut [u16],
-    link_back: &mut [u16],
-) -> Edited
-    ensures { Edit book.old origin.0 turn.0 walk (three turn_cost.old turn_links.old turn_back.old) (three link_cost.old link_links.old link_back.old) result book.new (three turn_cost.new turn_links.new turn_back.new) (three link_cost.new link_links.new link_back.new) }
+    turns: &mut LabelsMut<'_>,
+    links: &mut LabelsMut<'_>,
+) -> Result<Edited, Refusal>
+    ensures edited { Edit book.old origin.0 turn.0 walk (table_in turns.old) (table_in links.old) result book.new (table_in turns.new) (table_in links.new) }
+    ensures same { SameBuffers turns.old turns.new × SameBuffers links.old links.new }
 {
-    match length_test(
-        turn_test(node_test(check(book), origin), turn, walk),
-        turn_cost,
-        turn_links,
-        turn_back,
-        link_cost,
-        link_links,
-        link_back,
-    ) {
-        Checked::Refused(found) => Edited::Refused(found),
-        Checked::Good(counts) => {
-            edit_judged(
-                book, counts, origin, turn, walk, turn_cost, turn_links, turn_back, link_cost,
-                link_links, link_back,
-            )
-        }
-    }
+    let counts = check(book)?;
+    node_test(counts, origin)?;
+    turn_test(counts, turn, walk)?;
+    length_test(counts, turns.lent(), links.lent())?;
+    edit_judged(book, counts, origin, turn, walk, turns, links)
 }
 
 // Number, place and the two counts of an answer.
-pub fn given_back(answer: Edited) -> EditFigures
+pub fn given_back(answer: Result<Edited, Refusal>) -> EditFigures
     ensures { result ≡ edit_given_back answer }
 {
     match answer {
-        Edited::Done(turns, links) => EditFigures {
+        Ok(edited) => EditFigures {
             number: 0,
             place: 0,
-            turns,
-            links,
+            turns: edited.turns,
+            links: edited.links,
         },
-        Edited::Refused(found) => EditFigures {
-            number: found.number,
-            place: found.place,
+        Err(found) => EditFigures {
+            number: found.number(),
+            place: found.place(),
             turns: 0,
             links: 0,
         },

@@ -1,19 +1,17 @@
 // Edit: one change of a turn's walk, with the labels of the edited book.
 #![tactic(auto)]
 
-use book::Refusal;
-
 mod counting;
 mod editing;
 mod keeping;
 
 pub use editing::{edit, given_back};
 
-// What an edit answers: how many turn entries and how many link entries it altered, or a refusal.
+// How many turn entries and how many link entries an edit altered.
 #[derive(Clone, Copy)]
-pub enum Edited {
-    Done(usize, usize),
-    Refused(Refusal),
+pub struct Edited {
+    pub turns: usize,
+    pub links: usize,
 }
 
 // An answer's number, place and two counts.

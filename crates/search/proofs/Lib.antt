@@ -1,3 +1,4 @@
+pub mod Buffers
 pub mod TableLaws
 pub mod FilledTables
 pub mod LabelOrder

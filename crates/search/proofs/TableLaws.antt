@@ -8,7 +8,7 @@ use lib.ListN.{length, get_or, length-set}
 use lib.Seq.{get_or-set_same, get_or-set_other, ext_get_or}
 use Rattle.walk.specs.Labels.{Entry, Table, entry_at}
 use Rattle.walk.proofs.Filling.{up_to_length, up_to_at}
-use Rattle.search.specs.steps.Tables.{placed, placed_if, goes_ahead, offered, table_up_to, Sized}
+use Rattle.search.specs.steps.Tables.{placed, placed_if, goes_ahead, offered, table_up_to, Sized, Holds}
 use Rattle.search.specs.steps.Passing.{better}
 
 module _ {count : ℕ} {table : Table} (sized : Sized count table) (k : ℕ) (e : Entry) where
@@ -78,3 +78,7 @@ same_table {count} {one} {other} sized sized-other same =
 
 pub filled_table : {count : ℕ} {table : Table} {f : ℕ → Entry} → Sized count table → ((k : ℕ) → k < count → entry_at table k ≡ f k) → table ≡ table_up_to count f
 filled_table {count} {table} {f} sized same = same_table sized (up_to_sized count f) (λ k h. same k h ∙ sym (up_to_entry count f k h))
+
+-- a table of so many entries has each of them
+pub holds_in : {count : ℕ} {table : Table} → Sized count table → (k : ℕ) → k < count → Holds table k
+holds_in sized k h = record { cost = omega (arith, sized.cost); links = omega (arith, sized.links); back = omega (arith, sized.back) }

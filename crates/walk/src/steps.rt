@@ -1,5 +1,5 @@
 // What a walk's first link costs, what a turn adds, and the step from a turn to the next.
-ghost use Rattle.std.specs.Prelude.{◌≡◌, ◌≤◌, ◌<◌};
+ghost use Rattle.std.specs.Prelude.{◌≡◌, ◌≤◌, ◌<◌, IfSome};
 ghost use Rattle.walk.specs.View.{view_in};
 ghost use Rattle.walk.specs.Walks.{link_wait, boards, turn_wait};
 ghost use Rattle.walk.specs.steps.Costs.{link_cost, turn_cost};
@@ -74,7 +74,8 @@ impl Viewed<'_> {
     // The seconds that a turn adds after what stands between it and the turn before, if it may come.
     pub fn step_to(self, stands: Between, turn: TurnNumber) -> Option<u32>
         requires { turn.0 < self.book.counts.turns }
-        ensures { result ≡ step_to (view_in self.entry) stands turn.0 }
+        ensures value { result ≡ step_to (view_in self.entry) stands turn.0 }
+        ensures limited { IfSome result (λ more. more < 171000) }
     {
         if !self.may_step(stands, turn) {
             return None;

@@ -1,11 +1,8 @@
-use Prim.Native.Nat.{◌-◌}
-use lib.ListN.{length}
-use Rattle.walk.specs.Labels.{three}
+-- The entries passed are kept.
+use Rattle.std.proofs.Common.{length}
+use Rattle.search.specs.Lent.{labels_in}
 use Rattle.edit.proofs.KeptSoFar.{Kept}
 use Rattle.edit.proofs.keeping.keep_table.Given as goal
 
-abbrev pub invariant-entries : goal.invariant-entries
-invariant-entries l = Kept (length l.initial.kept) l.kept (three l.cost l.links l.back) l.entry
-
-abbrev pub decreases-entries : goal.decreases-entries
-decreases-entries l = length l.initial.kept - l.entry
+abbrev pub invariant-loop-entry : goal.invariant-loop-entry
+invariant-loop-entry l = Kept (length l.initial.kept) l.kept (labels_in l.labels) l.entry

@@ -3,10 +3,10 @@ use Rattle.std.proofs.Common.{sym, ◌∙◌}
 use Rattle.walk.specs.steps.Pairs.{step_to}
 use Rattle.walk.proofs.Viewed.step_to.Goals as goal
 
-pub returns-then-not-may_step : goal.returns-then-not-may_step
+pub returns-then-not-may_step-clause-value : goal.returns-then-not-may_step-clause-value
 unfolding step_to
-returns-then-not-may_step c = rw (sym c.may_step.ensures ∙ c.if-not-may_step.true)
+returns-then-not-may_step-clause-value c = rw (sym c.may_step.ensures ∙ c.if-not-may_step.true)
 
-pub returns : goal.returns
+pub returns-clause-value : goal.returns-clause-value
 unfolding step_to
-returns c = rw (sym c.may_step.ensures ∙ c.if-not-may_step.false, c.turn_cost.ensures.value, c.seconds.ensures)
+returns-clause-value c = rw (sym c.may_step.ensures ∙ c.if-not-may_step.false, c.turn_cost.ensures.value, c.seconds.ensures)

@@ -9,7 +9,6 @@ pub mod Spreading
 pub mod EveryBelow
 pub mod Overtaking
 pub mod NoneOvertaken
-pub mod StepTaken
 pub mod MarkLaws
 pub mod Underway
 pub mod EndedTurns

@@ -37,7 +37,7 @@ impl Label {
         self == other
     }
 
-    #[tactic(auto, unfolding(walk::specs::steps::ViewNet::is_none))]
+    #[tactic(auto, unfolding(walk::specs::steps::ViewNet::is_none, walk::specs::Counting::same_entry))]
     pub fn is_none(self) -> bool
         ensures { result ≡ is_none (as_entry self) }
     {

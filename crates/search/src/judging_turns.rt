@@ -29,13 +29,12 @@ impl Judge<'_, '_> {
         ensures { result ≡ overtaken_by (step_to (view_in self.entry.view) (look_up (listed_at (pair_table self.entry.view.book.bytes.now self.entry.view.book.counts) at to turn.0) self.entry.view.book.counts.carry_over (get_or self.entry.view.walks.now before.0 0) (get_or self.entry.view.walks.now turn.0 0)) turn.0) before.0 label.cost label.links (entry_at (labels_in self.entry.turns) turn.0) }
     {
         let stands = self.view.between_at(at, to, before, turn);
-        if !self.view.may_step(stands, turn) {
-            return false;
+        match self.view.step_to(stands, turn) {
+            None => false,
+            Some(more) => label
+                .one_turn_on(more, before)
+                .goes_ahead(self.turns.at(turn.0 as usize)),
         }
-        let more = stands.seconds() as u32 + self.view.turn_cost(turn);
-        label
-            .one_turn_on(more, before)
-            .goes_ahead(self.turns.at(turn.0 as usize))
     }
 
     // Whether none of the turns that may follow turn `before`, of this label, is overtaken.
@@ -79,11 +78,10 @@ impl Judge<'_, '_> {
             return false;
         }
         let stands = self.view.between_turns(back, turn);
-        if !self.view.may_step(stands, turn) {
-            return false;
+        match self.view.step_to(stands, turn) {
+            None => false,
+            Some(more) => label.same_as(before.one_turn_on(more, back)),
         }
-        let more = stands.seconds() as u32 + self.view.turn_cost(turn);
-        label.same_as(before.one_turn_on(more, back))
     }
 
     // Whether a turn's figures do not go ahead of the label of the link that it ends with.

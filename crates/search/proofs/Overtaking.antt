@@ -2,7 +2,7 @@
 use Rattle.std.specs.Prelude.{None, Some, Option}
 use Prim.Native.Nat.{ℕ, ◌+◌, ◌≤◌, ◌<◌}
 use mathlib.Core.Path.{◌≡◌, refl, ◌∙◌}
-use mathlib.Core.Bool.{Bool, true, false, not, ◌&&◌, ◌||◌}
+use mathlib.Core.Bool.{Bool, true, false, not, ◌&&◌}
 use native.Mathlib.Numerals.{add-one}
 use lib.Dec.{leb}
 use borrow.Author.Tests.{leb-true, lt-ltb, eq-eqb, ne_eqb}
@@ -13,9 +13,9 @@ use Rattle.walk.specs.Walks.{between, allowed, seconds}
 use Rattle.walk.specs.Labels.{Entry, Table, entry_at}
 use Rattle.walk.specs.steps.Pairs.{stepped, step_to, seconds_more}
 use Rattle.walk.specs.steps.ViewNet.{is_open, may_follow}
-use Rattle.search.specs.steps.Tables.{stands_as, goes_ahead, own_label}
+use Rattle.search.specs.steps.Tables.{stands_as, goes_ahead}
 use Rattle.search.specs.steps.Passing.{onward_to}
-use Rattle.search.specs.steps.Judging.{limited, overtaken_by, overtaken, stepped_by, back_leads, reached_stands, every_below}
+use Rattle.search.specs.steps.Judging.{limited, overtaken_by, overtaken, stepped_by, back_leads}
 use Rattle.search.proofs.Offers.{step_as}
 
 pub limits : (e : Entry) → limited e ≡ true → (2 ≤ e.links) × (e.links ≤ 4097) × (e.cost ≤ 191728800)
@@ -65,10 +65,3 @@ module _ (U : View) (turns : Table) (t : ℕ) (e before : Entry) (stands : Betwe
 
   pub leads_stepped : (more : ℕ) {answer : Bool} → step ≡ Some more → answer ≡ stands_as e (record { cost = before.cost + more; links = before.links + 1; back = e.back }) → answer ≡ back_leads U turns t e
   leads_stepped more adds told = told ∙ (rw adds at by_step)
-
--- the tests of a reached turn, where e is its entry
-pub reached_by : (U : View) (start : Entry) (turns links : Table) (t : ℕ) (e : Entry) → e ≡ entry_at turns t → {begun backed ended kept : Bool} → begun ≡ stands_as e start → backed ≡ back_leads U turns t e
-    → ended ≡ not (goes_ahead (own_label turns.cost turns.links t) (entry_at links (U.second t))) → kept ≡ every_below (λ v. not (overtaken U t e.cost e.links turns v)) U.turns
-    → ((begun || backed) && (ended && kept)) ≡ reached_stands U start turns links t
-unfolding reached_stands
-reached_by U start turns links t e same begin back end keep = rw (begin, back, end, keep, same)

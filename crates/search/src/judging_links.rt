@@ -13,6 +13,7 @@ use book::{LinkNumber, TurnNumber};
 
 impl Judge<'_, '_> {
     // Whether a link's label is that of its back, a reached turn that ends with the link.
+    #[tactic(auto, unfolding(crate::specs::steps::Judging::end_leads))]
     fn end_leads(self, link: LinkNumber, label: Label) -> bool
         ensures { result ≡ end_leads (view_in self.entry.view) self.entry.turns.cost.now self.entry.turns.links.now link.0 (as_entry label) }
     {
@@ -24,6 +25,7 @@ impl Judge<'_, '_> {
             & ((second.0 == link.0) & label.same_as(self.turns.own(label.back)))
     }
 
+    #[tactic(auto, unfolding(crate::specs::steps::Judging::link_stands))]
     fn link_stands(self, link: LinkNumber) -> bool
         requires { link.0 < self.view.book.counts.links }
         ensures { result ≡ link_stands (view_in self.entry.view) self.entry.origin.0 self.entry.turns.cost.now self.entry.turns.links.now (labels_in self.entry.links) link.0 }
@@ -42,6 +44,7 @@ impl Judge<'_, '_> {
         self.end_leads(link, label)
     }
 
+    #[tactic(auto, unfolding(crate::specs::steps::Judging::every_below))]
     pub fn links_stand(self) -> bool
         ensures { result ≡ every_below (link_stands (view_in self.entry.view) self.entry.origin.0 self.entry.turns.cost.now self.entry.turns.links.now (labels_in self.entry.links)) self.entry.view.book.counts.links }
     {

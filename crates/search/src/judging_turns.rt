@@ -16,6 +16,7 @@ use book::TurnNumber;
 
 impl Judge<'_, '_> {
     // Whether what turn `before`, of this label, offers a turn goes ahead of its label; the pairs of `before` end at `to`, and those before `at` are of earlier turns.
+    #[tactic(auto, using(crate::proofs::Overtaking::limits), unfolding(walk::specs::steps::Pairs::step_to))]
     fn is_overtaken(
         self,
         at: u16,
@@ -60,6 +61,7 @@ impl Judge<'_, '_> {
     }
 
     // Whether a turn's label is what its back offers.
+    #[tactic(auto, using(crate::proofs::Overtaking::limits, crate::proofs::Overtaking::leads_barred, crate::proofs::Overtaking::leads_stepped), unfolding(crate::specs::steps::Judging::back_leads, walk::specs::steps::Pairs::step_to))]
     fn back_leads(self, turn: TurnNumber, label: Label) -> bool
         requires { turn.0 < self.view.book.counts.turns }
         ensures { result ≡ back_leads (view_in self.entry.view) (labels_in self.entry.turns) turn.0 (as_entry label) }
@@ -95,6 +97,7 @@ impl Judge<'_, '_> {
     }
 
     // Whether the label of a reached turn comes from its start or its back, and overtakes nothing.
+    #[tactic(auto, unfolding(crate::specs::steps::Judging::reached_stands))]
     fn reached_stands(self, start: Label, turn: TurnNumber, label: Label) -> bool
         requires turn { turn.0 < self.view.book.counts.turns }
         requires label { (as_entry label ≡ entry_at (labels_in self.turns) turn.0) × (isLimited (as_entry label) ≡ true) }
@@ -104,6 +107,7 @@ impl Judge<'_, '_> {
             & (self.end_stands(turn) & self.followers_stand(turn, label))
     }
 
+    #[tactic(auto, unfolding(crate::specs::steps::Judging::turn_stands))]
     fn turn_stands(self, turn: TurnNumber) -> bool
         requires { turn.0 < self.view.book.counts.turns }
         ensures { result ≡ turn_stands (view_in self.entry.view) self.entry.origin.0 (labels_in self.entry.turns) (labels_in self.entry.links) turn.0 }
@@ -122,6 +126,7 @@ impl Judge<'_, '_> {
         self.reached_stands(start, turn, label)
     }
 
+    #[tactic(auto, unfolding(crate::specs::steps::Judging::every_below))]
     pub fn turns_stand(self) -> bool
         ensures { result ≡ every_below (turn_stands (view_in self.entry.view) self.entry.origin.0 (labels_in self.entry.turns) (labels_in self.entry.links)) self.entry.view.book.counts.turns }
     {

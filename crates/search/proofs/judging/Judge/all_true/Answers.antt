@@ -1,9 +1,5 @@
 -- The two passes are the judge's tests, which hold exactly of true labels.
-use Rattle.std.proofs.Common.{◌≡◌, List, ℕ, sym, subst}
-use Rattle.walk.specs.View.{view_with}
-use Rattle.walk.specs.Labels.{TrueLabels}
 use Rattle.search.specs.Lent.{labels_in}
-use Rattle.search.specs.steps.Judging.{Tells, every_below, link_stands}
 use Rattle.search.proofs.RouteLaws.{book_judged}
 use Rattle.search.proofs.judging.Judge.all_true.Goals as goal
 

@@ -1,6 +1,4 @@
 -- The followers passed are not overtaken, and the pairs passed are theirs.
-use Rattle.std.proofs.Common.{arith}
-use Rattle.search.proofs.BothRuns.{followers_listed, pairs_listed}
 use Rattle.search.proofs.NoneOvertaken.{none_yet, none_next, none_at_all, one_overtaken}
 use Rattle.search.proofs.judging.Judge.followers_stand.Goals as goal
 
@@ -15,9 +13,6 @@ loop-turn-init c = none_yet
       pairs_start = c.pairs_of-pairs.ensures.start;
       pairs_end = c.pairs_of-pairs.ensures.end;
     })
-
-pub pair_from-at-requires : goal.pair_from-at-requires
-pair_from-at-requires c = let both = c.loop-turn.invariant.both in (both.pairs_within, pairs_listed both.runs)
 
 pub loop-turn-preserved : goal.loop-turn-preserved
 loop-turn-preserved c = none_next c.loop-turn.invariant c.pair_from-at.ensures c.loop-turn-test.true c.is_overtaken.ensures c.if-is_overtaken.false

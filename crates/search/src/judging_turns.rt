@@ -16,7 +16,7 @@ use book::TurnNumber;
 
 impl Judge<'_, '_> {
     // Whether what turn `before`, of this label, offers a turn goes ahead of its label; the pairs of `before` end at `to`, and those before `at` are of earlier turns.
-    #[tactic(auto, using(crate::proofs::Overtaking::limits), unfolding(walk::specs::steps::Pairs::step_to))]
+    #[tactic(auto, using(crate::proofs::Overtaking::limits))]
     fn is_overtaken(
         self,
         at: u16,
@@ -61,7 +61,7 @@ impl Judge<'_, '_> {
     }
 
     // Whether a turn's label is what its back offers.
-    #[tactic(auto, using(crate::proofs::Overtaking::limits, crate::proofs::Overtaking::leads_barred, crate::proofs::Overtaking::leads_stepped), unfolding(crate::specs::steps::Judging::back_leads, walk::specs::steps::Pairs::step_to))]
+    #[tactic(auto, using(crate::proofs::Overtaking::limits), unfolding(crate::specs::steps::Judging::back_leads))]
     fn back_leads(self, turn: TurnNumber, label: Label) -> bool
         requires { turn.0 < self.view.book.counts.turns }
         ensures { result ≡ back_leads (view_in self.entry.view) (labels_in self.entry.turns) turn.0 (as_entry label) }

@@ -2,7 +2,7 @@
 use Rattle.std.specs.Prelude.{ℕ, List, Bool, true, false, Result, Ok, Err, length, leb, eqb}
 use Rattle.book.specs.declared.Counts.{Counts}
 use Rattle.book.specs.declared.Refusal.{Refusal}
-use Rattle.book.specs.declared.Refusal.TheVariants.{TooShort, Mark, Version, Limit, Length, Line, Link, Turn, Pair, NoNode, Change, LabelLength, UntrueLabel, NoWalk, NoRoom, Fares}
+use Rattle.book.specs.declared.Refusal.TheVariants.{TooShort, Mark, Version, Limit, Length, Line, Link, Turn, Pair, NoNode, BadChange, LabelLength, UntrueLabel, NoWalk, NoRoom, Fares}
 use Rattle.book.specs.declared.GivenBack.{GivenBack}
 use Rattle.book.specs.Header.{header_bytes, mark_good, version_good, counts_of, counts_good}
 use Rattle.book.specs.Tables.{book_end, line_table, link_table, turn_table, pair_table}
@@ -25,7 +25,7 @@ number_of (Link k) = 7
 number_of (Turn k) = 8
 number_of (Pair k) = 9
 number_of NoNode = 10
-number_of Change = 11
+number_of BadChange = 11
 number_of LabelLength = 12
 number_of UntrueLabel = 13
 number_of NoWalk = 14
@@ -44,7 +44,7 @@ place_of (Link k) = k
 place_of (Turn k) = k
 place_of (Pair k) = k
 place_of NoNode = 0
-place_of Change = 0
+place_of BadChange = 0
 place_of LabelLength = 0
 place_of UntrueLabel = 0
 place_of NoWalk = 0

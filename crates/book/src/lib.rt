@@ -57,7 +57,7 @@ pub enum Refusal {
     Turn(usize),
     Pair(usize),
     NoNode,
-    Change,
+    BadChange,
     LabelLength,
     UntrueLabel,
     NoWalk,

@@ -19,7 +19,7 @@ impl Refusal {
             Refusal::Turn(_) => 8,
             Refusal::Pair(_) => 9,
             Refusal::NoNode => 10,
-            Refusal::Change => 11,
+            Refusal::BadChange => 11,
             Refusal::LabelLength => 12,
             Refusal::UntrueLabel => 13,
             Refusal::NoWalk => 14,

@@ -1,6 +1,6 @@
 -- The entries that differ are counted one by one, at most one an entry.
 use Prim.Native.Nat.{ℕ, zero, suc, ◌+◌, ◌≤◌, ◌<◌}
-use mathlib.Core.Path.{◌≡◌, refl}
+use mathlib.Core.Path.{◌≡◌, refl, sym, ap, ◌∙◌}
 use mathlib.Core.Bool.{Bool, true, false}
 use native.Mathlib.Numerals.{add-one}
 use native.Mathlib.Omega.{arith}
@@ -19,6 +19,11 @@ module _ (before after : ℕ → Entry) where
   pub one_counted : (n : ℕ) {count more : ℕ} → count ≡ differing before after n → more ≡ one_unless (same_entry (before n) (after n)) → count + more ≡ differing before after (n + 1)
   unfolding differing
   one_counted n e f = rw (e, f, add-one n)
+
+  pub none_more : (n : ℕ) {count : ℕ} → count ≡ differing before after n → same_entry (before n) (after n) ≡ true → count ≡ differing before after (n + 1)
+  none_more n {count} e same =
+      let as_before : count ≡ count + 0 = omega arith in
+      as_before ∙ one_counted n e (sym (ap one_unless same))
 
 -- only the entries counted matter
 pub same_counted : (one other after : ℕ → Entry) (count : ℕ) → ((k : ℕ) → k < count → one k ≡ other k) → differing one after count ≡ differing other after count

@@ -24,7 +24,7 @@ use Rattle.edit.specs.Run.{if_done, Run, start, next}
 use Rattle.edit.specs.Demands.{NotTurnedAway, RunHolds}
 use Rattle.edit.proofs.Tested.{edit_passed}
 use Rattle.edit.proofs.Determined.{LabelsOf, edited_good}
-use Rattle.book.specs.declared.Refusal.TheVariants.{Change}
+use Rattle.book.specs.declared.Refusal.TheVariants.{BadChange}
 
 -- what one edit of the run leaves to those after it
 record EditHolds (r : ℕ) (book : List ℕ) (counts : Counts) (change : Change) (answer : EditAnswer) (book-after : List ℕ) (turns-after links-after : Table) : Type 0 where
@@ -40,11 +40,11 @@ module _ (r : ℕ) (counts : Counts) (origin : r < counts.nodes) where
     node_good = rw (checked, lt-ltb r counts.nodes origin)
 
     -- only the turn and its new walk can be refused
-    only_the_change : (turn walk : ℕ) (found : Refusal) → edit_tests book r turn walk turns links ≡ Err found → found ≡ Change
+    only_the_change : (turn walk : ℕ) (found : Refusal) → edit_tests book r turn walk turns links ≡ Err found → found ≡ BadChange
     unfolding turn_test length_test
     only_the_change turn walk found h = by (ltb turn counts.turns && seconds_good walk) (rw (node_good) at h)
       where
-        by : (test : Bool) → length_test (unless test Change (Ok counts)) turns links ≡ Err found → found ≡ Change
+        by : (test : Bool) → length_test (unless test BadChange (Ok counts)) turns links ≡ Err found → found ≡ BadChange
         by false e = cc
         by true e = clash (cc (lengths_fit (Ok counts) turns links counts refl (true_sized _ _ turns labels.turn) (true_sized _ _ links labels.link), e))
 
@@ -56,7 +56,7 @@ module _ (r : ℕ) (counts : Counts) (origin : r < counts.nodes) where
     edit_holds : (change : Change) (answer : EditAnswer) (book-after : List ℕ) (turns-after links-after : Table) → Edit book r change.turn change.walk turns links answer book-after turns-after links-after
         → EditHolds r book counts change answer book-after turns-after links-after
     edit_holds change answer book-after t l (refused found e a f g h) =
-        let eleven : found ≡ Change = only_the_change change.turn change.walk found e in
+        let eleven : found ≡ BadChange = only_the_change change.turn change.walk found e in
         rw (a, eleven, f, g, h) (record { edits = λ rest. refl; good = checked; labels = labels; not_turned_away = λ n. omega arith })
     edit_holds change answer book-after t l (untrue own e n a f g h) = absurd (n (subst (LabelsOf book r turns links) (sym (counts_same change.turn change.walk own e)) labels))
     edit_holds change answer book-after t l (done own e y f z a) =

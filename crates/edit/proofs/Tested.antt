@@ -1,11 +1,12 @@
 -- Where the tests of an edit do not refuse, the book is good, origin and turn are in it, the walk is allowed and the buffers have the book's lengths.
 use Prim.Native.Nat.{ℕ, ◌<◌}
-use mathlib.Core.Path.{◌≡◌}
+use mathlib.Core.Path.{◌≡◌, sym, ◌∙◌}
 use mathlib.Core.List.{List}
 use mathlib.Core.Bool.{true, ◌&&◌}
 use lib.Dec.{ltb}
 use borrow.Author.Tests.{ltb-true}
 use Rattle.book.specs.declared.Counts.{Counts}
+use Rattle.book.specs.declared.Refusal.{Refusal}
 use Rattle.std.specs.Prelude.{Ok, Err}
 use Rattle.book.specs.Entries.{seconds_good}
 use Rattle.book.specs.Check.{Checked, check_of}
@@ -17,13 +18,13 @@ use Rattle.search.specs.Tests.{node_test, length_test}
 use Rattle.search.specs.steps.Tables.{Sized}
 use Rattle.search.proofs.Tested.{own_counts, node_passed, length_passed}
 use Rattle.edit.specs.Edit.{turn_test, edit_tests}
-use Rattle.book.specs.declared.Refusal.TheVariants.{Change}
+use Rattle.book.specs.declared.Refusal.TheVariants.{BadChange}
 
 pub turn_passed : (checked : Checked) (turn walk : ℕ) (counts : Counts) → turn_test checked turn walk ≡ Ok counts → (checked ≡ Ok counts) × (turn < counts.turns) × (seconds_good walk ≡ true)
 unfolding turn_test
 turn_passed (Err found) turn walk counts h = clash (cc)
 turn_passed (Ok own) turn walk counts h =
-    let (held, same) = passed (ltb turn own.turns && seconds_good walk) Change (Ok own) h in
+    let (held, same) = passed (ltb turn own.turns && seconds_good walk) BadChange (Ok own) h in
     let (inside, allowed) = both (ltb turn own.turns) (seconds_good walk) held in
     (same, rw (own_counts same) at (ltb-true turn own.turns inside), allowed)
 
@@ -47,3 +48,17 @@ edit_passed book r turn walk turns links counts h =
     let (noded, listed, allowed) = turn_passed (node_test (check_of book) r) turn walk counts turned in
     let (checked, origin) = node_passed (check_of book) r counts noded in
     record { checked = checked; origin = origin; listed = listed; allowed = allowed; turns_sized = turns_sized; links_sized = links_sized }
+
+-- test 11 asked of the counts that the check found
+pub turn_leaves : (checked : Checked) (turn walk : ℕ) (found : Refusal) → checked ≡ Err found → turn_test checked turn walk ≡ Err found
+unfolding turn_test
+turn_leaves checked turn walk found e = rw e
+
+module _ {checked : Checked} {counts : Counts} (good : checked ≡ Ok counts) (turn walk : ℕ) where
+  pub turn_stands : {answer : Checked} {kept : Counts} → answer ≡ turn_test (Ok counts) turn walk → answer ≡ Ok kept → turn_test checked turn walk ≡ Ok counts
+  turn_stands told was =
+      let passes = sym told ∙ was in
+      rw good (passes ∙ sym (turn_passed _ turn walk _ passes).0)
+
+  pub turn_refuses : {answer : Checked} {found : Refusal} → answer ≡ turn_test (Ok counts) turn walk → answer ≡ Err found → turn_test checked turn walk ≡ Err found
+  turn_refuses told was = rw good (sym told ∙ was)

@@ -10,13 +10,13 @@ use Rattle.walk.specs.Labels.{Table, entry_at, TrueLabels}
 use Rattle.walk.specs.Counting.{differing}
 use Rattle.search.specs.Tests.{node_test, length_test}
 use Rattle.edit.specs.declared.EditFigures.{EditFigures}
-use Rattle.book.specs.declared.Refusal.TheVariants.{Change, UntrueLabel}
+use Rattle.book.specs.declared.Refusal.TheVariants.{BadChange, UntrueLabel}
 use Rattle.edit.specs.declared.Edited.{Edited}
 
 -- 11: the edited turn is not in the table, or its new walk is not allowed
 unfoldable pub turn_test : Checked → ℕ → ℕ → Checked
 turn_test (Err found) turn walk = Err found
-turn_test (Ok counts) turn walk = unless (ltb turn counts.turns && seconds_good walk) Change (Ok counts)
+turn_test (Ok counts) turn walk = unless (ltb turn counts.turns && seconds_good walk) BadChange (Ok counts)
 
 -- 1 to 12
 abbrev pub edit_tests : List ℕ → ℕ → ℕ → ℕ → Table → Table → Checked

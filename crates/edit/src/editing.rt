@@ -25,7 +25,7 @@ fn turn_test(counts: Counts, turn: TurnNumber, walk: u16) -> Result<Counts, Refu
     ensures { result ≡ turn_test (Ok counts) turn.0 walk }
 {
     if !(((turn.0 as usize) < counts.turns) & seconds_good(walk)) {
-        return Err(Refusal::Change);
+        return Err(Refusal::BadChange);
     }
     Ok(counts)
 }

@@ -1,5 +1,5 @@
 -- The entries passed are kept.
-use Rattle.std.proofs.Common.{rules, refl, ◌∙◌}
+use Rattle.std.proofs.Common.{rules, refl}
 use Rattle.edit.proofs.KeptSoFar.{none_kept, one_kept, all_kept}
 use Rattle.edit.proofs.keeping.keep_table.Goals as goal
 

@@ -83,31 +83,39 @@ fn answer_question(
         Question::Print(name) => print_file(rt, Printer::Route, name, text)?,
         Question::PrintFare(name) => print_file(rt, Printer::Fare, name, text)?,
         Question::New(length) => desk.begin_book(length),
-        Question::Number(at, values) => desk.book.write_numbers(at, values)?,
+        Question::Number { at, values } => desk.book.write_numbers(at, values)?,
         Question::Length(length) => desk.book.set_length(length),
-        Question::Alter(buffer, at, value) => desk.alter(buffer, at, value)?,
-        Question::Lend(buffer, count) => desk.lend(buffer, count),
-        Question::Fares(terms, table) => desk.fares.take(terms, table)?,
+        Question::Alter { buffer, at, value } => desk.alter(buffer, at, value)?,
+        Question::Lend { buffer, count } => desk.lend(buffer, count),
+        Question::Fares { terms, table } => desk.fares.take(terms, table)?,
         Question::Turn(entry) => desk.put_turn(entry, text)?,
         Question::Link(entry) => desk.put_link(entry, text)?,
         Question::Turns => desk.put_turns(text),
         Question::Links => desk.put_links(text),
         Question::Room => desk.route.put(text),
         Question::Check => put_checked(search::check(desk.book.as_bytes()), text),
-        Question::Cost(origin, walk) => say_cost(origin, walk, desk, text),
+        Question::Cost { origin, walk } => say_cost(origin, walk, desk, text),
         Question::Search(origin) => say_asked(Asked::Search(NodeNumber(origin)), desk, text),
-        Question::Route(origin, destination, room) => {
+        Question::Route {
+            origin,
+            destination,
+            room,
+        } => {
             desk.route.set_room(room)?;
             let asked = Asked::Route(NodeNumber(origin), NodeNumber(destination));
             say_asked(asked, desk, text);
         }
-        Question::Fare(origin, destination, room) => {
+        Question::Fare {
+            origin,
+            destination,
+            room,
+        } => {
             desk.route.set_room(room)?;
             let terms = terms_now(desk);
             let asked = Asked::Fare(NodeNumber(origin), NodeNumber(destination), terms);
             say_asked(asked, desk, text);
         }
-        Question::Edit(origin, turn, walk) => {
+        Question::Edit { origin, turn, walk } => {
             let asked = Asked::Edit(NodeNumber(origin), TurnNumber(turn), walk);
             say_asked(asked, desk, text);
         }

@@ -15,11 +15,7 @@ const ONE_NODE: [u8; 17] = [b'L', b'T', b'B', 1, 0, 1, 0, 0, 0, 0, 0, 0, 0, 0, 0
 
 // Whether the text keeps its marks from a place on.
 fn kept(text: &[u8], from: usize) -> bool {
-    let mut whole = true;
-    for at in from..text.len() {
-        whole = whole & (text[at] == MARK);
-    }
-    whole
+    text.iter().skip(from).all(|byte| *byte == MARK)
 }
 
 fn say_kept(rt: &impl Print, text: &[u8], from: usize) -> io::Result<()> {
@@ -30,13 +26,10 @@ fn say_kept(rt: &impl Print, text: &[u8], from: usize) -> io::Result<()> {
 }
 
 fn say_end(rt: &impl Print, text: &[u8], last: usize) -> io::Result<()> {
-    if text.len() <= last {
-        return Ok(());
+    match text.get(last) {
+        Some(b'\n') => rt.write_all(b", ended by a newline"),
+        _ => Ok(()),
     }
-    if text[last] == b'\n' {
-        rt.write_all(b", ended by a newline")?;
-    }
-    Ok(())
 }
 
 // The line without the byte that ends it.

@@ -1,5 +1,5 @@
 // The label figures on the desk: a table for turns and one for links, and how much of each buffer is lent.
-ghost use Rattle.std.specs.Prelude.{◌≤◌};
+ghost use Rattle.std.specs.Prelude.{◌≡◌, ◌≤◌, length, min};
 
 use super::writing::{Fault, Text};
 
@@ -61,7 +61,7 @@ impl Table {
 
     // How much of a column is lent: as much as the book counts where no `lend` named it.
     pub fn lent(&self, column: Column, counted: usize) -> usize
-        ensures { result ≤ 4097 }
+        ensures { result ≤ LENT_ROOM }
     {
         let named = match column {
             Column::Cost => self.cost_lent,
@@ -135,7 +135,9 @@ fn two_bytes(value: u32) -> Result<u16, Fault> {
 }
 
 // The first so many of the items, or all.
-pub fn first_mut<T>(items: &mut [T], count: usize) -> &mut [T] {
+pub fn first_mut<T>(items: &mut [T], count: usize) -> &mut [T]
+    ensures { length result.now ≡ min count (length items.old) }
+{
     let end = count.min(items.len());
     &mut items[..end]
 }

@@ -130,7 +130,7 @@ impl Desk {
 
     // How many numbers of a label buffer are lent.
     pub fn lent(&self, buffer: Buffer) -> usize
-        ensures { result ≤ 4097 }
+        ensures { result ≤ LENT_ROOM }
     {
         match buffer {
             Buffer::Turn(column) => self.turns.lent(column, self.book.turns()),

@@ -13,22 +13,50 @@ pub enum Question<'a> {
     Print(&'a [u8]),
     PrintFare(&'a [u8]),
     New(usize),
-    Number(usize, &'a [u32]),
+    Number {
+        at: usize,
+        values: &'a [u32],
+    },
     Length(usize),
-    Alter(Buffer, usize, u32),
-    Lend(Buffer, Option<usize>),
-    Fares([u32; 3], &'a [u32]),
+    Alter {
+        buffer: Buffer,
+        at: usize,
+        value: u32,
+    },
+    Lend {
+        buffer: Buffer,
+        count: Option<usize>,
+    },
+    Fares {
+        terms: [u32; 3],
+        table: &'a [u32],
+    },
     Turn(usize),
     Link(usize),
     Turns,
     Links,
     Room,
     Check,
-    Cost(u16, &'a [u32]),
+    Cost {
+        origin: u16,
+        walk: &'a [u32],
+    },
     Search(u16),
-    Route(u16, u16, Option<usize>),
-    Fare(u16, u16, Option<usize>),
-    Edit(u16, u16, u16),
+    Route {
+        origin: u16,
+        destination: u16,
+        room: Option<usize>,
+    },
+    Fare {
+        origin: u16,
+        destination: u16,
+        room: Option<usize>,
+    },
+    Edit {
+        origin: u16,
+        turn: u16,
+        walk: u16,
+    },
 }
 
 // The most that a number may be: in a book, in a label or fare table, and as a length.
@@ -120,21 +148,22 @@ impl<'a> Question<'a> {
             b"new" => Ok(Question::New(size(one(words, LONGEST_BOOK, numbers)?))),
             b"number" => {
                 let (at, values) = placed(words, numbers)?;
-                Ok(Question::Number(at, values))
+                Ok(Question::Number { at, values })
             }
             b"length" => Ok(Question::Length(size(one(words, LONGEST_BOOK, numbers)?))),
             b"alter" => {
                 let (buffer, rest) = buffer(words)?;
                 let (at, value) = altered(rest, numbers)?;
-                Ok(Question::Alter(buffer, at, value))
+                Ok(Question::Alter { buffer, at, value })
             }
             b"lend" => {
                 let (buffer, rest) = buffer(words)?;
-                Ok(Question::Lend(buffer, lent(rest, numbers)?))
+                let count = lent(rest, numbers)?;
+                Ok(Question::Lend { buffer, count })
             }
             b"fares" => {
                 let (terms, table) = fares(words, numbers)?;
-                Ok(Question::Fares(terms, table))
+                Ok(Question::Fares { terms, table })
             }
             b"turn" => Ok(Question::Turn(size(one(words, TWO_BYTES, numbers)?))),
             b"link" => Ok(Question::Link(size(one(words, TWO_BYTES, numbers)?))),
@@ -155,21 +184,29 @@ impl<'a> Question<'a> {
                 Ok(Question::Check)
             }
             b"cost" => {
-                let (from, walk) = walked(words, numbers)?;
-                Ok(Question::Cost(from, walk))
+                let (origin, walk) = walked(words, numbers)?;
+                Ok(Question::Cost { origin, walk })
             }
             b"search" => Ok(Question::Search(narrow(one(words, TWO_BYTES, numbers)?))),
             b"route" => {
-                let (from, to, room) = from_to(words, numbers)?;
-                Ok(Question::Route(from, to, room))
+                let (origin, destination, room) = from_to(words, numbers)?;
+                Ok(Question::Route {
+                    origin,
+                    destination,
+                    room,
+                })
             }
             b"fare" => {
-                let (from, to, room) = from_to(words, numbers)?;
-                Ok(Question::Fare(from, to, room))
+                let (origin, destination, room) = from_to(words, numbers)?;
+                Ok(Question::Fare {
+                    origin,
+                    destination,
+                    room,
+                })
             }
             b"edit" => {
-                let (from, turn, walk) = edited(words, numbers)?;
-                Ok(Question::Edit(from, turn, walk))
+                let (origin, turn, walk) = edited(words, numbers)?;
+                Ok(Question::Edit { origin, turn, walk })
             }
             _ => Err(Fault::NoSuchQuestion),
         }
@@ -181,11 +218,11 @@ impl<'a> Question<'a> {
             Question::Open(_)
             | Question::Save(_)
             | Question::New(_)
-            | Question::Number(_, _)
+            | Question::Number { .. }
             | Question::Length(_)
-            | Question::Alter(_, _, _)
-            | Question::Lend(_, _)
-            | Question::Fares(_, _) => Answer::Done,
+            | Question::Alter { .. }
+            | Question::Lend { .. }
+            | Question::Fares { .. } => Answer::Done,
             _ => Answer::Said,
         }
     }

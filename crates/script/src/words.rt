@@ -1,4 +1,6 @@
 // Words and decimal numbers in a line of text. Words stand apart by blanks.
+ghost use Rattle.std.specs.Prelude.{◌≡◌, ◌%◌, ◌≤◌, length};
+
 use super::writing::Fault;
 
 // A walk longer than the longest that is costed, with its origin, and some.
@@ -13,7 +15,9 @@ fn is_blank(byte: u8) -> bool {
 }
 
 // The line without the blanks at its two ends.
-pub fn trimmed(line: &[u8]) -> &[u8] {
+pub fn trimmed(line: &[u8]) -> &[u8]
+    ensures { length result.now ≤ length line.now }
+{
     let Some(first) = line.iter().position(|byte| !is_blank(*byte)) else {
         return &[];
     };
@@ -89,8 +93,10 @@ pub fn read_numbers<'a>(
 }
 
 // A number that was held to two bytes.
-pub fn narrow(number: u32) -> u16 {
-    (number & 0xffff) as u16
+pub fn narrow(number: u32) -> u16
+    ensures { result ≡ number % 65536 }
+{
+    (number % 65536) as u16
 }
 
 // As many numbers as there have to be.

@@ -40,8 +40,6 @@ pub fn print_file(
     text: &mut Text,
 ) -> Result<(), Fault> {
     let mut room = [0u8; FILE_ROOM];
-    let Ok(input) = read_file(rt, name, &mut room) else {
-        return Err(Fault::FileNotOpened);
-    };
+    let input = read_file(rt, name, &mut room).map_err(|_| Fault::FileNotOpened)?;
     say_sheet(printer, input, text)
 }

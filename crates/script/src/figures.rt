@@ -131,7 +131,7 @@ fn put_rows(costs: &[u32], links: &[u16], backs: &[u16], text: &mut Text) {
 }
 
 fn two_bytes(value: u32) -> Result<u16, Fault> {
-    u16::try_from(value).map_err(|_| Fault::NumberAbove(65535))
+    u16::try_from(value).map_err(|_| Fault::NumberAbove(u64::from(u16::MAX)))
 }
 
 // The first so many of the items, or all.

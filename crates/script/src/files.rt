@@ -53,18 +53,14 @@ fn write_file(rt: &impl Files, name: &[u8], bytes: &[u8]) -> io::Result<()> {
 
 pub fn open_book(rt: &impl Files, name: &[u8], desk: &mut Desk) -> Result<(), Fault> {
     let mut room = [0u8; FILE_ROOM];
-    let Ok(bytes) = read_file(rt, name, &mut room) else {
-        return Err(Fault::FileNotOpened);
-    };
+    let bytes = read_file(rt, name, &mut room).map_err(|_| Fault::FileNotOpened)?;
     desk.take_book(bytes)
 }
 
 // Whether the book is that file byte for byte.
 pub fn same_book(rt: &impl Files, name: &[u8], desk: &Desk) -> Result<bool, Fault> {
     let mut room = [0u8; FILE_ROOM];
-    let Ok(bytes) = read_file(rt, name, &mut room) else {
-        return Err(Fault::FileNotOpened);
-    };
+    let bytes = read_file(rt, name, &mut room).map_err(|_| Fault::FileNotOpened)?;
     Ok(bytes == desk.book.as_bytes())
 }
 

@@ -1,5 +1,5 @@
 // Words and decimal numbers in a line of text. Words stand apart by blanks.
-ghost use Rattle.std.specs.Prelude.{◌≡◌, ◌%◌, ◌≤◌, length};
+ghost use Rattle.std.specs.Prelude.{◌≡◌, ◌%◌, ◌≤◌, ◌++◌, length, IfOk};
 
 use super::writing::Fault;
 
@@ -100,7 +100,9 @@ pub fn narrow(number: u32) -> u16
 }
 
 // As many numbers as there have to be.
-pub fn exactly<const N: usize>(numbers: &[u32]) -> Result<[u32; N], Fault> {
+pub fn exactly<const N: usize>(numbers: &[u32]) -> Result<[u32; N], Fault>
+    ensures { IfOk result (λ found. found ≡ numbers.now) }
+{
     match numbers.as_array::<N>() {
         Some(found) => Ok(*found),
         None if numbers.len() < N => Err(Fault::TooFewNumbers),
@@ -109,6 +111,8 @@ pub fn exactly<const N: usize>(numbers: &[u32]) -> Result<[u32; N], Fault> {
 }
 
 // The numbers that there have to be, and those behind them.
-pub fn at_least<const N: usize>(numbers: &[u32]) -> Result<(&[u32; N], &[u32]), Fault> {
+pub fn at_least<const N: usize>(numbers: &[u32]) -> Result<(&[u32; N], &[u32]), Fault>
+    ensures { IfOk result (λ found. found.0.now ++ found.1.now ≡ numbers.now) }
+{
     numbers.split_first_chunk::<N>().ok_or(Fault::TooFewNumbers)
 }

@@ -134,7 +134,7 @@ fn two_bytes(value: u32) -> Result<u16, Fault> {
     u16::try_from(value).map_err(|_| Fault::NumberAbove(u64::from(u16::MAX)))
 }
 
-// The first so many of the items, or all.
+// The first so many of the items, or all: a part of a field that is an array is not lent in place yet.
 pub fn first_mut<T>(items: &mut [T], count: usize) -> &mut [T]
     ensures { length result.now ≡ min count (length items.old) }
 {

@@ -1,4 +1,5 @@
 // What lies on the desk: a day book, its labels, the route buffer and the fares.
+ghost use Rattle.script.specs.declared.figures.TheConstants.{LENT_ROOM};
 ghost use Rattle.std.specs.Prelude.{◌≤◌};
 
 use super::books::DayBook;
@@ -55,7 +56,7 @@ pub struct Fares {
     pub premium: u32,
     table: [u32; LENT_ROOM],
     count: usize,
-    ghost within: { count ≤ 4097 },
+    ghost within: { count ≤ LENT_ROOM },
 }
 
 impl Fares {

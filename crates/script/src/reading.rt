@@ -1,4 +1,5 @@
 // The lines of a script, out of blocks of its bytes.
+ghost use Rattle.script.specs.declared.reading.TheConstants.{BLOCK_ROOM};
 ghost use Rattle.std.specs.Prelude.{◌≤◌};
 
 use std::io;
@@ -20,7 +21,7 @@ pub struct Block {
     bytes: [u8; BLOCK_ROOM],
     at: usize,
     end: usize,
-    ghost within: { end ≤ 65536 },
+    ghost within: { end ≤ BLOCK_ROOM },
 }
 
 impl Block {

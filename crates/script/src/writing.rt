@@ -1,4 +1,5 @@
 // What the desk says: an answer as text, and why a line could not be read or done.
+ghost use Rattle.script.specs.declared.writing.TheConstants.{TEXT_ROOM};
 ghost use Rattle.std.specs.Prelude.{◌≤◌};
 
 use std::fmt;
@@ -12,7 +13,7 @@ pub const TEXT_ROOM: usize = 98304;
 pub struct Text {
     bytes: [u8; TEXT_ROOM],
     length: usize,
-    ghost within: { length ≤ 98304 },
+    ghost within: { length ≤ TEXT_ROOM },
 }
 
 impl Text {

@@ -2,17 +2,15 @@
 use book::{NodeNumber, TurnNumber};
 use edit::{Edited, edit};
 use fare::{Fared, Terms, fare, fare_given_back};
-use script::{Verb, within_numbers};
 use search::{Routed, Searched, cost_of, route, route_given_back, search, split_in};
 
-// A question with its numbers and the fares' terms.
+// A question, with its origin first; a fare's with the fares' terms, an edit's with the turn's new walk.
 #[derive(Clone, Copy)]
-pub struct Asked {
-    pub verb: Verb,
-    pub origin: u16,
-    pub second: u16,
-    pub walk: u16,
-    pub terms: Terms,
+pub enum Asked {
+    Search(NodeNumber),
+    Route(NodeNumber, NodeNumber),
+    Fare(NodeNumber, NodeNumber, Terms),
+    Edit(NodeNumber, TurnNumber, u16),
 }
 
 // The most figures that an answer has beside number and place: those of a route.
@@ -42,7 +40,7 @@ fn of_searched(answer: Searched) -> Told {
 // Cost, where the minutes go, and number of links; the links follow. A refused one has none, and no links have no minutes.
 fn of_routed(answer: Routed, book: &[u8], origin: NodeNumber, links: &[u16]) -> Told {
     let found = route_given_back(answer);
-    let end = within_numbers(found.links as usize, links);
+    let end = (found.links as usize).min(links.len());
     let split = split_in(cost_of(book, origin, &links[..end]));
     Told {
         number: found.number,
@@ -96,17 +94,15 @@ pub fn put_question(
     links: &mut [u16],
     fares: &[u32],
 ) -> Told {
-    let origin = NodeNumber(asked.origin);
-    let verb = asked.verb;
-    match verb {
-        Verb::Search => of_searched(search(
+    match asked {
+        Asked::Search(origin) => of_searched(search(
             book, origin, turn_cost, turn_links, turn_back, link_cost, link_links, link_back,
         )),
-        Verb::Route => {
+        Asked::Route(origin, destination) => {
             let answer = route(
                 book,
                 origin,
-                NodeNumber(asked.second),
+                destination,
                 turn_cost,
                 turn_links,
                 turn_back,
@@ -117,10 +113,10 @@ pub fn put_question(
             );
             of_routed(answer, book, origin, links)
         }
-        Verb::Fare => of_fared(fare(
+        Asked::Fare(origin, destination, terms) => of_fared(fare(
             book,
             origin,
-            NodeNumber(asked.second),
+            destination,
             turn_cost,
             turn_links,
             turn_back,
@@ -129,18 +125,10 @@ pub fn put_question(
             link_back,
             links,
             fares,
-            asked.terms,
+            terms,
         )),
-        _ => of_edited(edit(
-            book,
-            origin,
-            TurnNumber(asked.second),
-            asked.walk,
-            turn_cost,
-            turn_links,
-            turn_back,
-            link_cost,
-            link_links,
+        Asked::Edit(origin, turn, walk) => of_edited(edit(
+            book, origin, turn, walk, turn_cost, turn_links, turn_back, link_cost, link_links,
             link_back,
         )),
     }

@@ -1,36 +1,45 @@
 // The printers' lines for a file's bytes as their input.
-use script::{Contents, FILE_ROOM, Said, Verb, answer, fault, put_lines, read_file, within};
+use script::{FILE_ROOM, Fault, Text, read_file};
 use sheet::{Sheeted, fare_sheet, sheet};
 use std::rt::Files;
 
 // The longest text of a fare sheet.
 const LINES_ROOM: usize = 20557;
 
-fn sheeted(verb: Verb, input: &[u8], lines: &mut [u8]) -> Sheeted {
-    match verb {
-        Verb::Print => sheet(input, lines),
-        _ => fare_sheet(input, lines),
+#[derive(Clone, Copy, Debug, PartialEq, Eq)]
+pub enum Printer {
+    Route,
+    Fare,
+}
+
+impl Printer {
+    fn sheet(self, input: &[u8], lines: &mut [u8]) -> Sheeted {
+        match self {
+            Printer::Route => sheet(input, lines),
+            Printer::Fare => fare_sheet(input, lines),
+        }
     }
 }
 
-fn say_sheet(verb: Verb, input: &[u8], text: &mut [u8]) -> Said {
+fn say_sheet(printer: Printer, input: &[u8], text: &mut Text) -> Result<(), Fault> {
     let mut lines = [0u8; LINES_ROOM];
-    match sheeted(verb, input, &mut lines) {
-        Sheeted::NoRoom => fault(text, b"no room for the sheet"),
+    match printer.sheet(input, &mut lines) {
+        Sheeted::NoRoom => Err(Fault::NoRoomForTheSheet),
         Sheeted::Line(length) => {
-            let end = within(length, &lines);
-            answer(put_lines(&lines[..end], text))
+            let end = length.min(LINES_ROOM);
+            text.put_lines(&lines[..end]);
+            Ok(())
         }
     }
 }
 
-pub fn print_file(rt: &impl Files, verb: Verb, name: &[u8], text: &mut [u8]) -> Said {
-    let mut input = [0u8; FILE_ROOM];
-    match read_file(rt, name, &mut input) {
-        Contents::NotOpened => fault(text, b"file cannot be opened"),
-        Contents::Bytes(count) => {
-            let end = within(count, &input);
-            say_sheet(verb, &input[..end], text)
-        }
-    }
+pub fn print_file(
+    rt: &impl Files,
+    printer: Printer,
+    name: &[u8],
+    text: &mut Text,
+) -> Result<(), Fault> {
+    let mut room = [0u8; FILE_ROOM];
+    let input = read_file(rt, name, &mut room).map_err(|_| Fault::FileNotOpened)?;
+    say_sheet(printer, input, text)
 }

@@ -1,89 +1,57 @@
 // A script: its lines one by one, each answered and perhaps held against the answer that is expected.
-use super::answering::answer_line;
-use script::{
-    Came, Progress, after, clear_desk, count_broken, hold, lines_left, onward, print_tally,
-    said_in, show, start, take_line, trimmed, unclear, within, word_with,
-};
+use super::answering::Clerk;
+use script::{Block, Came, Ending, Fault, Place, Tally, split_at_sign};
 use std::io;
 use std::io::Read;
 use std::rt::Files;
 
+const LINE_ROOM: usize = 262144;
+
+// A line without its remark; one that has no room has no expected answer either.
 fn settle<R: Files + Print>(
     rt: &R,
-    name: &[u8],
-    place: u64,
-    line: &[u8],
-    length: usize,
-    numbers: &mut [u32],
-    book: &mut [u8],
-    figures: &mut [u32],
-    text: &mut [u8],
+    place: Place,
+    line: Option<&[u8]>,
+    clerk: &mut Clerk,
 ) -> io::Result<Came> {
-    if line.len() < length {
-        return show(rt, name, place, b"line too long", unclear(0));
-    }
-    let said = said_in(line, length);
-    if said.len() == 0 {
+    let Some(line) = line else {
+        return place.show(rt, Err(Fault::LineTooLong), &[]);
+    };
+    let (said, _) = split_at_sign(line, b'#');
+    if said.is_empty() {
         return Ok(Came::Unasked);
     }
-    let sign = word_with(said, b'=');
-    let question = trimmed(&said[..sign]);
-    let answered = answer_line(rt, question, numbers, book, figures, text);
-    let end = within(answered.length, text);
-    if said.len() <= sign {
-        return show(rt, name, place, &text[..end], answered);
+    let (question, expected) = split_at_sign(said, b'=');
+    let answered = clerk.answer(rt, question);
+    match expected {
+        Some(expected) => place.hold(rt, question, expected, clerk.said()),
+        None => place.show(rt, answered, clerk.said()),
     }
-    hold(rt, name, place, question, after(said, sign), &text[..end])
 }
 
-fn answer_next<R: Files + Print>(
-    rt: &R,
-    file: &mut impl Read,
-    name: &[u8],
-    before: Progress,
-    block: &mut [u8],
-    line: &mut [u8],
-    numbers: &mut [u32],
-    book: &mut [u8],
-    figures: &mut [u32],
-    text: &mut [u8],
-) -> io::Result<Progress> {
-    let taken = take_line(file, block, before.at, before.end, line);
-    let place = before.lines.wrapping_add(1);
-    let came = settle(
-        rt,
-        name,
-        place,
-        line,
-        taken.length,
-        numbers,
-        book,
-        figures,
-        text,
-    )?;
-    count_broken(rt, name, onward(before, taken, came), taken.broken)
-}
-
-pub fn run_script<R: Files + Print>(
-    rt: &R,
-    file: &mut impl Read,
-    name: &[u8],
-    block: &mut [u8],
-    line: &mut [u8],
-    numbers: &mut [u32],
-    book: &mut [u8],
-    figures: &mut [u32],
-    text: &mut [u8],
-) -> io::Result<()> {
-    // no script finds what another one left
-    clear_desk(book, figures);
-    let mut progress = start();
-    let mut left = u64::MAX;
-    'lines: while 0 < left {
-        progress = answer_next(
-            rt, file, name, progress, block, line, numbers, book, figures, text,
-        )?;
-        left = lines_left(progress.over, left);
+// No script finds what another one left: each has a clerk of its own.
+pub fn run_script<R: Files + Print>(rt: &R, file: &mut impl Read, name: &[u8]) -> io::Result<()> {
+    let mut clerk = Clerk::new();
+    let mut block = Block::new();
+    let mut room = [0u8; LINE_ROOM];
+    let mut tally = Tally::default();
+    // nothing says that a script ends, so that its lines are counted to a number that no run comes to
+    for passed in 0..u64::MAX {
+        let place = Place {
+            name,
+            line: passed + 1,
+        };
+        let (line, ending) = block.take_line(file, &mut room);
+        tally.count(settle(rt, place, line, &mut clerk)?);
+        match ending {
+            Ending::Line => {}
+            Ending::File => break,
+            Ending::Broken => {
+                place.print_broken(rt)?;
+                tally.count(Came::NotAsExpected);
+                break;
+            }
+        }
     }
-    print_tally(rt, name, progress.right, progress.wrong)
+    tally.print(rt, name)
 }

@@ -3,7 +3,7 @@
 
 use book::NodeNumber;
 use fare::{Fared, Metres, Terms, Won, fare};
-use script::{print, read_full, within};
+use script::read_full;
 use sheet::{Sheeted, fare_sheet, sheet};
 use std::io;
 
@@ -15,28 +15,21 @@ const ONE_NODE: [u8; 17] = [b'L', b'T', b'B', 1, 0, 1, 0, 0, 0, 0, 0, 0, 0, 0, 0
 
 // Whether the text keeps its marks from a place on.
 fn kept(text: &[u8], from: usize) -> bool {
-    let mut whole = true;
-    for at in from..text.len() {
-        whole = whole & (text[at] == MARK);
-    }
-    whole
+    text.iter().skip(from).all(|byte| *byte == MARK)
 }
 
 fn say_kept(rt: &impl Print, text: &[u8], from: usize) -> io::Result<()> {
     if kept(text, from) {
-        return print(rt, b", the rest of the text is kept\n");
+        return rt.write_all(b", the rest of the text is kept\n");
     }
-    print(rt, b", the rest of the text is changed\n")
+    rt.write_all(b", the rest of the text is changed\n")
 }
 
 fn say_end(rt: &impl Print, text: &[u8], last: usize) -> io::Result<()> {
-    if text.len() <= last {
-        return Ok(());
+    match text.get(last) {
+        Some(b'\n') => rt.write_all(b", ended by a newline"),
+        _ => Ok(()),
     }
-    if text[last] == b'\n' {
-        print(rt, b", ended by a newline")?;
-    }
-    Ok(())
 }
 
 // The line without the byte that ends it.
@@ -44,16 +37,16 @@ fn say_line(rt: &impl Print, text: &[u8], length: usize) -> io::Result<()> {
     if length == 0 {
         return Ok(());
     }
-    let last = within(length - 1, text);
-    print(rt, &text[..last])?;
+    let last = (length - 1).min(text.len());
+    rt.write_all(&text[..last])?;
     say_end(rt, text, last)
 }
 
 fn say_sheet(rt: &impl Print, name: &[u8], answered: Sheeted, text: &[u8]) -> io::Result<()> {
-    print(rt, name)?;
+    rt.write_all(name)?;
     match answered {
         Sheeted::NoRoom => {
-            print(rt, b"no room")?;
+            rt.write_all(b"no room")?;
             say_kept(rt, text, 0)
         }
         Sheeted::Line(length) => {
@@ -107,7 +100,7 @@ fn say_fare(rt: &impl Print, name: &[u8], distance: u64, premium: u64) -> io::Re
         step: Metres(1),
         premium: Won(premium),
     };
-    print(rt, name)?;
+    rt.write_all(name)?;
     match fare(
         &book,
         NodeNumber(0),
@@ -122,12 +115,12 @@ fn say_fare(rt: &impl Print, name: &[u8], distance: u64, premium: u64) -> io::Re
         &[],
         terms,
     ) {
-        Fared::Done(_, _, _) => print(rt, b"a fare\n"),
+        Fared::Done(_, _, _) => rt.write_all(b"a fare\n"),
         Fared::Refused(found) => {
             if found.number == 17 {
-                return print(rt, b"17\n");
+                return rt.write_all(b"17\n");
             }
-            print(rt, b"another number\n")
+            rt.write_all(b"another number\n")
         }
     }
 }

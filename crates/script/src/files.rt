@@ -1,11 +1,8 @@
 // Files: the book from one or into one, and the bytes of one.
 ghost use Rattle.std.specs.Io.{ReadsAtMost};
 
-use super::books::{BOOK_ROOM, take_book};
-use super::figures::{BOOK, size_of};
-use super::parts::within;
-use super::text::{Said, above, done, fault, say};
-use super::verbs::Verb;
+use super::laid::Desk;
+use super::writing::Fault;
 use std::io::{ErrorKind, Read};
 use std::rt::Files;
 use std::{fs, io, str};
@@ -13,19 +10,9 @@ use std::{fs, io, str};
 // One byte more than a book may have, so that a longer file is seen.
 pub const FILE_ROOM: usize = 65537;
 
-// A file's first bytes, or that it cannot be opened or read, as a folder cannot.
-#[derive(Clone, Copy)]
-pub enum Contents {
-    Bytes(usize),
-    NotOpened,
-}
-
 // A file's name is UTF-8: by another none can be opened.
 fn path_of(name: &[u8]) -> io::Result<&str> {
-    match str::from_utf8(name) {
-        Ok(path) => Ok(path),
-        Err(_) => Err(io::Error::from(ErrorKind::InvalidFilename)),
-    }
+    str::from_utf8(name).map_err(|_| io::Error::from(ErrorKind::InvalidFilename))
 }
 
 pub fn open_file<R: Files>(rt: &R, name: &[u8]) -> io::Result<R::File> {
@@ -49,79 +36,34 @@ pub fn read_full(file: &mut impl Read, bytes: &mut [u8]) -> io::Result<usize>
     Ok(end)
 }
 
-fn read_open(file: &mut impl Read, bytes: &mut [u8]) -> Contents {
-    match read_full(file, bytes) {
-        Ok(end) => Contents::Bytes(end),
-        Err(_) => Contents::NotOpened,
-    }
-}
-
-pub fn read_file(rt: &impl Files, name: &[u8], bytes: &mut [u8]) -> Contents {
-    match open_file(rt, name) {
-        Ok(mut file) => read_open(&mut file, bytes),
-        Err(_) => Contents::NotOpened,
-    }
-}
-
-fn open(bytes: &[u8], book: &mut [u8], figures: &mut [u32], text: &mut [u8]) -> Said {
-    if BOOK_ROOM < bytes.len() {
-        return above(text, b"file longer than", BOOK_ROOM as u64);
-    }
-    take_book(bytes, book, figures)
-}
-
-fn say_same(bytes: &[u8], book: &[u8], length: usize, text: &mut [u8]) -> Said {
-    let end = within(length, book);
-    if bytes == &book[..end] {
-        return say(text, b"yes");
-    }
-    say(text, b"no")
+// A file's first bytes; a folder, too, cannot be read.
+pub fn read_file<'a>(
+    rt: &impl Files,
+    name: &[u8],
+    room: &'a mut [u8; FILE_ROOM],
+) -> io::Result<&'a [u8]> {
+    let mut file = open_file(rt, name)?;
+    let end = read_full(&mut file, room)?;
+    Ok(&room[..end])
 }
 
 fn write_file(rt: &impl Files, name: &[u8], bytes: &[u8]) -> io::Result<()> {
     fs::write(rt, path_of(name)?, bytes)
 }
 
-fn save(rt: &impl Files, name: &[u8], book: &[u8], length: usize, text: &mut [u8]) -> Said {
-    let end = within(length, book);
-    match write_file(rt, name, &book[..end]) {
-        Ok(()) => done(),
-        Err(_) => fault(text, b"file cannot be written"),
-    }
+pub fn open_book(rt: &impl Files, name: &[u8], desk: &mut Desk) -> Result<(), Fault> {
+    let mut room = [0u8; FILE_ROOM];
+    let bytes = read_file(rt, name, &mut room).map_err(|_| Fault::FileNotOpened)?;
+    desk.take_book(bytes)
 }
 
-fn open_or_compare(
-    rt: &impl Files,
-    verb: Verb,
-    name: &[u8],
-    book: &mut [u8],
-    figures: &mut [u32],
-    text: &mut [u8],
-) -> Said {
-    let mut bytes = [0u8; FILE_ROOM];
-    match read_file(rt, name, &mut bytes) {
-        Contents::NotOpened => fault(text, b"file cannot be opened"),
-        Contents::Bytes(count) => {
-            let end = within(count, &bytes);
-            match verb {
-                Verb::Open => open(&bytes[..end], book, figures, text),
-                _ => say_same(&bytes[..end], book, size_of(figures, BOOK), text),
-            }
-        }
-    }
+// Whether the book is that file byte for byte.
+pub fn same_book(rt: &impl Files, name: &[u8], desk: &Desk) -> Result<bool, Fault> {
+    let mut room = [0u8; FILE_ROOM];
+    let bytes = read_file(rt, name, &mut room).map_err(|_| Fault::FileNotOpened)?;
+    Ok(bytes == desk.book.as_bytes())
 }
 
-// The book and a file.
-pub fn handle_file(
-    rt: &impl Files,
-    verb: Verb,
-    name: &[u8],
-    book: &mut [u8],
-    figures: &mut [u32],
-    text: &mut [u8],
-) -> Said {
-    match verb {
-        Verb::Save => save(rt, name, book, size_of(figures, BOOK), text),
-        _ => open_or_compare(rt, verb, name, book, figures, text),
-    }
+pub fn save_book(rt: &impl Files, name: &[u8], desk: &Desk) -> Result<(), Fault> {
+    write_file(rt, name, desk.book.as_bytes()).map_err(|_| Fault::FileNotWritten)
 }

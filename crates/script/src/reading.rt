@@ -1,104 +1,82 @@
 // The lines of a script, out of blocks of its bytes.
+ghost use Rattle.script.specs.declared.reading.TheConstants.{BLOCK_ROOM};
+ghost use Rattle.std.specs.Prelude.{◌≤◌};
+
+use std::io;
 use std::io::Read;
 
-// Bytes `at` to `end` of the block are still to be taken. A line longer than its room has a length greater than that. Whether it is the last, and whether the file could not be read on.
-#[derive(Clone, Copy)]
-pub struct Taken {
-    pub at: usize,
-    pub end: usize,
-    pub length: usize,
-    pub last: bool,
-    pub broken: bool,
+const BLOCK_ROOM: usize = 65536;
+
+// What ends a line: the sign for it, the file's end, or that the file cannot be read on.
+#[derive(Clone, Copy, Debug, PartialEq, Eq)]
+pub enum Ending {
+    Line,
+    File,
+    Broken,
 }
 
-pub fn byte_at(block: &[u8], at: usize) -> u8 {
-    if at < block.len() {
-        return block[at];
-    }
-    0
-}
-
-fn put_byte(line: &mut [u8], at: usize, byte: u8) -> usize {
-    if at < line.len() {
-        line[at] = byte;
-        return at + 1;
-    }
-    line.len().wrapping_add(1)
-}
-
-#[derive(Clone, Copy)]
-struct Place {
+// A block of a file; its bytes from a place on are still to be taken.
+#[derive(Drop)]
+pub struct Block {
+    bytes: [u8; BLOCK_ROOM],
     at: usize,
     end: usize,
-    broken: bool,
+    ghost within: { end ≤ BLOCK_ROOM },
 }
 
-// The next block where nothing of this one is left.
-fn filled(file: &mut impl Read, block: &mut [u8], at: usize, end: usize) -> Place {
-    if at < end {
-        return Place {
-            at,
-            end,
-            broken: false,
-        };
-    }
-    match file.read(block) {
-        Ok(end) => Place {
-            at: 0,
-            end,
-            broken: false,
-        },
-        Err(_) => Place {
+impl Block {
+    pub fn new() -> Block {
+        Block {
+            bytes: [0; BLOCK_ROOM],
             at: 0,
             end: 0,
-            broken: true,
-        },
+        }
     }
-}
 
-// The bytes up to the next end of a line, or of the file.
-pub fn take_line(
-    file: &mut impl Read,
-    block: &mut [u8],
-    from: usize,
-    until: usize,
-    line: &mut [u8],
-) -> Taken {
-    let mut at = from;
-    let mut end = until;
-    let mut length = 0;
-    // nothing says that a file ends, so that the bytes are counted to a number that no run comes to
-    for _ in 0..u64::MAX {
-        let place = filled(file, block, at, end);
-        at = place.at;
-        end = place.end;
-        if end <= at {
-            return Taken {
-                at,
-                end,
-                length,
-                last: true,
-                broken: place.broken,
-            };
+    // The next byte of the file, out of its next block where nothing of this one is left.
+    fn next_byte(&mut self, file: &mut impl Read) -> io::Result<Option<u8>> {
+        if self.end <= self.at {
+            self.at = 0;
+            self.end = 0;
+            let end = file.read(&mut self.bytes)?;
+            self.end = end;
         }
-        let byte = byte_at(block, at);
-        at += 1;
-        if byte == b'\n' {
-            return Taken {
-                at,
-                end,
-                length,
-                last: false,
-                broken: false,
-            };
+        if self.end <= self.at {
+            return Ok(None);
         }
-        length = put_byte(line, length, byte);
+        let byte = self.bytes[self.at];
+        self.at += 1;
+        Ok(Some(byte))
     }
-    Taken {
-        at,
-        end,
-        length,
-        last: true,
-        broken: false,
+
+    // The bytes up to the next end of a line, or of the file; none where the line has no room.
+    pub fn take_line<'a>(
+        &mut self,
+        file: &mut impl Read,
+        line: &'a mut [u8],
+    ) -> (Option<&'a [u8]>, Ending) {
+        let mut length = 0usize;
+        let mut ending = Ending::File;
+        // nothing says that a file ends, so that the bytes are counted to a number that no run comes to
+        for _ in 0..u64::MAX {
+            match self.next_byte(file) {
+                Ok(Some(b'\n')) => {
+                    ending = Ending::Line;
+                    break;
+                }
+                Ok(Some(byte)) => {
+                    if let Some(place) = line.get_mut(length) {
+                        *place = byte;
+                    }
+                    length = length.saturating_add(1);
+                }
+                Ok(None) => break,
+                Err(_) => {
+                    ending = Ending::Broken;
+                    break;
+                }
+            }
+        }
+        (line.get(..length), ending)
     }
 }

@@ -1,8 +1,8 @@
 // Each question put to the layers, and what they answer as figures.
-use book::{NodeNumber, TurnNumber};
+use book::{NodeNumber, Refusal, TurnNumber};
 use edit::{Edited, edit};
-use fare::{Fared, Terms, fare, fare_given_back};
-use search::{Routed, Searched, cost_of, route, route_given_back, search, split_in};
+use fare::{Fared, Fares, Terms, fare, fare_given_back};
+use search::{LabelsMut, Routed, cost_of, route, route_given_back, search, split_in};
 
 // A question, with its origin first; a fare's with the fares' terms, an edit's with the turn's new walk.
 #[derive(Clone, Copy)]
@@ -26,7 +26,7 @@ pub struct Told {
     pub links: usize,
 }
 
-fn of_searched(answer: Searched) -> Told {
+fn of_searched(answer: Result<(), Refusal>) -> Told {
     let found = search::given_back(answer);
     Told {
         number: found.number,
@@ -38,7 +38,12 @@ fn of_searched(answer: Searched) -> Told {
 }
 
 // Cost, where the minutes go, and number of links; the links follow. A refused one has none, and no links have no minutes.
-fn of_routed(answer: Routed, book: &[u8], origin: NodeNumber, links: &[u16]) -> Told {
+fn of_routed(
+    answer: Result<Routed, Refusal>,
+    book: &[u8],
+    origin: NodeNumber,
+    links: &[u16],
+) -> Told {
     let found = route_given_back(answer);
     let end = (found.links as usize).min(links.len());
     let split = split_in(cost_of(book, origin, &links[..end]));
@@ -59,7 +64,7 @@ fn of_routed(answer: Routed, book: &[u8], origin: NodeNumber, links: &[u16]) -> 
 }
 
 // Fare, cost and number of links; the links follow.
-fn of_fared(answer: Fared) -> Told {
+fn of_fared(answer: Result<Fared, Refusal>) -> Told {
     let found = fare_given_back(answer);
     Told {
         number: found.number,
@@ -71,7 +76,7 @@ fn of_fared(answer: Fared) -> Told {
 }
 
 // The two counts.
-fn of_edited(answer: Edited) -> Told {
+fn of_edited(answer: Result<Edited, Refusal>) -> Told {
     let found = edit::given_back(answer);
     Told {
         number: found.number,
@@ -85,51 +90,35 @@ fn of_edited(answer: Edited) -> Told {
 pub fn put_question(
     asked: Asked,
     book: &mut [u8],
-    turn_cost: &mut [u32],
-    turn_links: &mut [u16],
-    turn_back: &mut [u16],
-    link_cost: &mut [u32],
-    link_links: &mut [u16],
-    link_back: &mut [u16],
-    links: &mut [u16],
-    fares: &[u32],
+    turns: &mut LabelsMut<'_>,
+    links: &mut LabelsMut<'_>,
+    buffer: &mut [u16],
+    table: &[u32],
 ) -> Told {
     match asked {
-        Asked::Search(origin) => of_searched(search(
-            book, origin, turn_cost, turn_links, turn_back, link_cost, link_links, link_back,
-        )),
+        Asked::Search(origin) => of_searched(search(book, origin, turns, links)),
         Asked::Route(origin, destination) => {
             let answer = route(
                 book,
                 origin,
                 destination,
-                turn_cost,
-                turn_links,
-                turn_back,
-                link_cost,
-                link_links,
-                link_back,
-                links,
+                turns.lent(),
+                links.lent(),
+                buffer,
             );
-            of_routed(answer, book, origin, links)
+            of_routed(answer, book, origin, buffer)
         }
         Asked::Fare(origin, destination, terms) => of_fared(fare(
             book,
             origin,
             destination,
-            turn_cost,
-            turn_links,
-            turn_back,
-            link_cost,
-            link_links,
-            link_back,
-            links,
-            fares,
-            terms,
+            turns.lent(),
+            links.lent(),
+            buffer,
+            Fares { table, terms },
         )),
-        Asked::Edit(origin, turn, walk) => of_edited(edit(
-            book, origin, turn, walk, turn_cost, turn_links, turn_back, link_cost, link_links,
-            link_back,
-        )),
+        Asked::Edit(origin, turn, walk) => {
+            of_edited(edit(book, origin, turn, walk, turns, links))
+        }
     }
 }

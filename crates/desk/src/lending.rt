@@ -2,6 +2,7 @@
 use super::asking::{Asked, Told, put_question};
 use fare::{Metres, Terms, Won};
 use script::{Buffer, Column, Desk, first_mut};
+use search::LabelsMut;
 
 pub fn terms_now(desk: &Desk) -> Terms {
     Terms {
@@ -18,15 +19,21 @@ pub fn ask(asked: Asked, desk: &mut Desk) -> Told {
     let link_costs = desk.lent(Buffer::Link(Column::Cost));
     let link_links = desk.lent(Buffer::Link(Column::Links));
     let link_backs = desk.lent(Buffer::Link(Column::Back));
+    let mut turns = LabelsMut {
+        cost: first_mut(&mut desk.turns.cost, turn_costs),
+        links: first_mut(&mut desk.turns.links, turn_links),
+        back: first_mut(&mut desk.turns.back, turn_backs),
+    };
+    let mut links = LabelsMut {
+        cost: first_mut(&mut desk.links.cost, link_costs),
+        links: first_mut(&mut desk.links.links, link_links),
+        back: first_mut(&mut desk.links.back, link_backs),
+    };
     put_question(
         asked,
         desk.book.as_bytes_mut(),
-        first_mut(&mut desk.turns.cost, turn_costs),
-        first_mut(&mut desk.turns.links, turn_links),
-        first_mut(&mut desk.turns.back, turn_backs),
-        first_mut(&mut desk.links.cost, link_costs),
-        first_mut(&mut desk.links.links, link_links),
-        first_mut(&mut desk.links.back, link_backs),
+        &mut turns,
+        &mut links,
         desk.route.lent_mut(),
         desk.fares.table(),
     )

@@ -1,6 +1,6 @@
 // The printers' lines for a file's bytes as their input.
 use script::{FILE_ROOM, Fault, Text, read_file};
-use sheet::{Sheeted, fare_sheet, sheet};
+use sheet::{fare_sheet, sheet};
 use std::rt::Files;
 
 // The longest text of a fare sheet.
@@ -13,7 +13,7 @@ pub enum Printer {
 }
 
 impl Printer {
-    fn sheet(self, input: &[u8], lines: &mut [u8]) -> Sheeted {
+    fn sheet(self, input: &[u8], lines: &mut [u8]) -> Option<usize> {
         match self {
             Printer::Route => sheet(input, lines),
             Printer::Fare => fare_sheet(input, lines),
@@ -23,14 +23,11 @@ impl Printer {
 
 fn say_sheet(printer: Printer, input: &[u8], text: &mut Text) -> Result<(), Fault> {
     let mut lines = [0u8; LINES_ROOM];
-    match printer.sheet(input, &mut lines) {
-        Sheeted::NoRoom => Err(Fault::NoRoomForTheSheet),
-        Sheeted::Line(length) => {
-            let end = length.min(LINES_ROOM);
-            text.put_lines(&lines[..end]);
-            Ok(())
-        }
-    }
+    let length = printer
+        .sheet(input, &mut lines)
+        .ok_or(Fault::NoRoomForTheSheet)?;
+    text.put_lines(&lines[..length.min(LINES_ROOM)]);
+    Ok(())
 }
 
 pub fn print_file(

@@ -1,8 +1,8 @@
 // What the layers answer, in figures and words.
 use super::asking::Told;
-use book::Checked;
+use book::{Counts, Refusal};
 use script::Text;
-use walk::Costed;
+use walk::{Costed, NoCost};
 
 // What a refusal's number means: document 01, "Numbers given back", and document 02.
 static MEANINGS: [&str; 18] = [
@@ -33,10 +33,10 @@ fn put_why(number: u8, text: &mut Text) {
     }
 }
 
-fn put_refusal(number: u8, place: usize, text: &mut Text) {
-    text.put_figure(number);
-    text.put_figure(place as u64);
-    put_why(number, text);
+fn put_refusal(found: Refusal, text: &mut Text) {
+    text.put_figure(found.number());
+    text.put_figure(found.place() as u64);
+    put_why(found.number(), text);
 }
 
 // A refusal's other figures are 0, as those past an answer's own are: one that were not would be said.
@@ -57,10 +57,10 @@ pub fn put_told(told: Told, text: &mut Text) {
 }
 
 // 0 and the header's figures.
-pub fn put_checked(answer: Checked, text: &mut Text) {
+pub fn put_checked(answer: Result<Counts, Refusal>, text: &mut Text) {
     match answer {
-        Checked::Refused(found) => put_refusal(found.number, found.place, text),
-        Checked::Good(counts) => {
+        Err(found) => put_refusal(found, text),
+        Ok(counts) => {
             text.put("0");
             text.put_figure(counts.nodes as u64);
             text.put_figure(counts.lines as u64);
@@ -73,12 +73,12 @@ pub fn put_checked(answer: Checked, text: &mut Text) {
 }
 
 // 0, the cost and where the minutes go, or why the walk has none.
-pub fn put_costed(answer: Costed, text: &mut Text) {
+pub fn put_costed(answer: Result<Costed, NoCost>, text: &mut Text) {
     match answer {
-        Costed::Refused(found) => put_refusal(found.number, found.place, text),
-        Costed::TooLong => text.put("too long"),
-        Costed::NotPermitted => text.put("not permitted"),
-        Costed::Permitted(cost, split) => {
+        Err(NoCost::Refused(found)) => put_refusal(found, text),
+        Err(NoCost::TooLong) => text.put("too long"),
+        Err(NoCost::NotPermitted) => text.put("not permitted"),
+        Ok(Costed { cost, split }) => {
             text.put("0");
             text.put_figure(cost as u64);
             text.put_figure(split.ride as u64);

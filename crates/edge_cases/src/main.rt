@@ -1,10 +1,11 @@
 // The few cases that no line of the desk can say: texts of little room for a sheet, and terms of a fare past 32 bits.
 #![tactic(auto)]
 
-use book::NodeNumber;
-use fare::{Fared, Metres, Terms, Won, fare};
+use book::{NodeNumber, Refusal};
+use fare::{Fares, Metres, Terms, Won, fare};
 use script::read_full;
-use sheet::{Sheeted, fare_sheet, sheet};
+use search::Labels;
+use sheet::{fare_sheet, sheet};
 use std::io;
 
 // What every byte of a text holds beforehand.
@@ -12,6 +13,12 @@ const MARK: u8 = b'.';
 
 // Document 01, "The day book": a header alone, with one node.
 const ONE_NODE: [u8; 17] = [b'L', b'T', b'B', 1, 0, 1, 0, 0, 0, 0, 0, 0, 0, 0, 0, 0, 0];
+
+const NO_LABELS: Labels = Labels {
+    cost: &[],
+    links: &[],
+    back: &[],
+};
 
 // Whether the text keeps its marks from a place on.
 fn kept(text: &[u8], from: usize) -> bool {
@@ -42,14 +49,14 @@ fn say_line(rt: &impl Print, text: &[u8], length: usize) -> io::Result<()> {
     say_end(rt, text, last)
 }
 
-fn say_sheet(rt: &impl Print, name: &[u8], answered: Sheeted, text: &[u8]) -> io::Result<()> {
+fn say_sheet(rt: &impl Print, name: &[u8], answered: Option<usize>, text: &[u8]) -> io::Result<()> {
     rt.write_all(name)?;
     match answered {
-        Sheeted::NoRoom => {
+        None => {
             rt.write_all(b"no room")?;
             say_kept(rt, text, 0)
         }
-        Sheeted::Line(length) => {
+        Some(length) => {
             say_line(rt, text, length)?;
             say_kept(rt, text, length)
         }
@@ -105,23 +112,14 @@ fn say_fare(rt: &impl Print, name: &[u8], distance: u64, premium: u64) -> io::Re
         &book,
         NodeNumber(0),
         NodeNumber(0),
-        &[],
-        &[],
-        &[],
-        &[],
-        &[],
-        &[],
+        NO_LABELS,
+        NO_LABELS,
         &mut [],
-        &[],
-        terms,
+        Fares { table: &[], terms },
     ) {
-        Fared::Done(_, _, _) => rt.write_all(b"a fare\n"),
-        Fared::Refused(found) => {
-            if found.number == 17 {
-                return rt.write_all(b"17\n");
-            }
-            rt.write_all(b"another number\n")
-        }
+        Ok(_) => rt.write_all(b"a fare\n"),
+        Err(Refusal::Fares) => rt.write_all(b"17\n"),
+        Err(_) => rt.write_all(b"another number\n"),
     }
 }
 

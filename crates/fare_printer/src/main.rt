@@ -2,7 +2,7 @@
 #![tactic(auto)]
 
 use script::read_full;
-use sheet::{Sheeted, fare_sheet};
+use sheet::fare_sheet;
 use std::io;
 
 // Any longer input has the same answer as its first 65,536 bytes, which the buffer holds (`fare_read_says` in the sheet's FareOverLong).
@@ -11,8 +11,8 @@ fn main(rt: HostRuntime) -> io::Result<()> {
     let length = read_full(&mut rt.stdin(), &mut input)?;
     let mut text = [0u8; 65536];
     match fare_sheet(&input[..length], &mut text) {
-        Sheeted::Line(end) => rt.write_all(&text[..end]),
+        Some(end) => rt.write_all(&text[..end]),
         // This does not happen: the text has room for the longest (`fare_always_room` in the sheet's Printed).
-        Sheeted::NoRoom => Ok(()),
+        None => Ok(()),
     }
 }

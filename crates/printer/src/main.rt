@@ -2,7 +2,7 @@
 #![tactic(auto)]
 
 use script::read_full;
-use sheet::{Sheeted, sheet};
+use sheet::sheet;
 use std::io;
 
 // The buffer holds more than the largest book, and any longer input has the same answer as its first 65,536 bytes (`read_says` in the sheet's OverLong).
@@ -11,8 +11,8 @@ fn main(rt: HostRuntime) -> io::Result<()> {
     let length = read_full(&mut rt.stdin(), &mut input)?;
     let mut text = [0u8; 65536];
     match sheet(&input[..length], &mut text) {
-        Sheeted::Line(end) => rt.write_all(&text[..end]),
+        Some(end) => rt.write_all(&text[..end]),
         // This does not happen: the text has room for the longest line (`always_room` in the sheet's Printed).
-        Sheeted::NoRoom => Ok(()),
+        None => Ok(()),
     }
 }

@@ -7,12 +7,11 @@ use Rattle.walk.specs.Labels.{Table}
 use Rattle.walk.proofs.theory.Laws.{clash}
 use Rattle.search.proofs.Determined.{route_determined}
 use Rattle.fare.specs.declared.Terms.{Terms}
-use Rattle.fare.specs.declared.Fared.{Fared}
 use Rattle.fare.specs.Fares.{fares_good}
-use Rattle.fare.specs.Asked.{Faring, refused, bad_fares, done}
+use Rattle.fare.specs.Asked.{FareAnswer, Faring, refused, bad_fares, done}
 
 -- two outcomes that the contract of a fare allows for one input are equal
-pub fare_determined : (book : List ℕ) (r s : ℕ) (turns links : Table) (buffer table : List ℕ) (terms : Terms) (one other : Fared) (after after-other : List ℕ) → Faring book r s turns links buffer table terms one after
+pub fare_determined : (book : List ℕ) (r s : ℕ) (turns links : Table) (buffer table : List ℕ) (terms : Terms) (one other : FareAnswer) (after after-other : List ℕ) → Faring book r s turns links buffer table terms one after
     → Faring book r s turns links buffer table terms other after-other → (one ≡ other) × (after ≡ after-other)
 fare_determined book r s turns links buffer table terms one other a b (refused found w g e) (refused found' w' g' e') =
     let (same, _) = route_determined book r s turns links buffer _ _ _ _ w w' in

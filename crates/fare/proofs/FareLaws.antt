@@ -11,7 +11,7 @@ use lib.ListN.{length, get_or, drop, drop_of_length-le}
 use lib.Seq.{drop-cons}
 use borrow.Author.Tests.{ltb-true}
 use Rattle.book.specs.declared.Counts.{Counts}
-use Rattle.book.specs.declared.Checked.TheVariants.{Good}
+use Rattle.std.specs.Prelude.{Ok}
 use Rattle.book.specs.Check.{check_of}
 use Rattle.book.proofs.Limits.{both}
 use Rattle.book.proofs.GoodBook.{good_book}
@@ -61,7 +61,7 @@ pub record Limited (count : ℕ) (F : Fares) : Type 0 where
   pub long : 0 < F.terms.step.0
   pub premium : F.terms.premium.0 ≤ most_won
 
-pub limited_fares : (book : List ℕ) (counts : Counts) (table : List ℕ) (terms : Terms) → check_of book ≡ Good counts → fares_good counts table terms ≡ true → Limited counts.links (fares_of (view_of book counts) table terms)
+pub limited_fares : (book : List ℕ) (counts : Counts) (table : List ℕ) (terms : Terms) → check_of book ≡ Ok counts → fares_good counts table terms ≡ true → Limited counts.links (fares_of (view_of book counts) table terms)
 limited_fares book counts table terms checked good =
     let fares = good_fares counts table terms good in
     record {

@@ -104,6 +104,12 @@ module _ (count : ℕ) (F : Fares) (limited : Limited count F) where
         by [] e = omega (arith, ap (λ (x : Won). x.0) (fare_none F links (rw e)))
         by (l ∷ rest) e = omega (arith, ap (λ (x : Won). x.0) (fare_some F links (rw e (omega arith))), dearest_most links exist, premiums_most)
 
-    -- so 64 bits hold the fare of as many links as may be given
+    -- so 64 bits hold the premiums, the sum and the fare of as many links as may be given
+    pub premiums_held : length links ≤ 65535 → (premiums F links).0 ≤ largest_held
+    premiums_held few = omega (arith, premiums_most)
+
+    pub sum_held : length links ≤ 65535 → (dearest (λ l. F.basic (F.line l)) links).0 + (premiums F links).0 ≤ largest_held
+    sum_held few = omega (arith, premiums_most, dearest_most links exist)
+
     pub fare_held : length links ≤ 65535 → (fare_of F links).0 ≤ largest_held
     fare_held few = omega (arith, fare_most)

@@ -10,6 +10,7 @@ ghost use Rattle.fare.specs.steps.Reckoning.{LinksGiven};
 use super::{Fares, Metres, Won};
 use book::{CheckedBook, Counts, LinkNumber};
 
+#[tactic(auto, using(crate::proofs::GoodFares::link_inside, crate::proofs::GoodFares::metres_within))]
 fn link_metres(counts: Counts, table: &[u32], link: LinkNumber) -> Metres
     requires good { table_good counts table.now ≡ true }
     requires exists { link.0 < counts.links }
@@ -19,6 +20,7 @@ fn link_metres(counts: Counts, table: &[u32], link: LinkNumber) -> Metres
     Metres(u64::from(table[usize::from(link.0)]))
 }
 
+#[tactic(auto, using(crate::proofs::GoodFares::line_inside, crate::proofs::GoodFares::basic_within))]
 fn link_basic(book: CheckedBook<'_>, table: &[u32], link: LinkNumber) -> Won
     requires good { table_good book.counts table.now ≡ true }
     requires exists { link.0 < book.counts.links }
@@ -29,6 +31,7 @@ fn link_basic(book: CheckedBook<'_>, table: &[u32], link: LinkNumber) -> Won
     Won(u64::from(table[at]))
 }
 
+#[tactic(auto, using(crate::proofs::GoodFares::link_exists))]
 fn metres_ridden(counts: Counts, table: &[u32], links: &[u16]) -> Metres
     requires good { table_good counts table.now ≡ true }
     requires given { LinksGiven counts links.now }
@@ -41,6 +44,7 @@ fn metres_ridden(counts: Counts, table: &[u32], links: &[u16]) -> Metres
     metres
 }
 
+#[tactic(auto, using(crate::proofs::GoodFares::link_exists))]
 fn dearest_basic(book: CheckedBook<'_>, table: &[u32], links: &[u16]) -> Won
     requires good { table_good book.counts table.now ≡ true }
     requires given { LinksGiven book.counts links.now }
@@ -54,6 +58,7 @@ fn dearest_basic(book: CheckedBook<'_>, table: &[u32], links: &[u16]) -> Won
 }
 
 // Document 02, request 3: the dearest basic fare among the lines ridden, plus a premium for each started step beyond the basic distance.
+#[tactic(auto, using(crate::proofs::GoodFares::fares_tabled, crate::proofs::GoodFares::step_long, crate::proofs::FareLaws::fare_none))]
 pub fn fare_of(book: CheckedBook<'_>, fares: Fares<'_>, links: &[u16]) -> Won
     requires good { fares_good book.counts fares.table.now fares.terms ≡ true }
     requires given { LinksGiven book.counts links.now }

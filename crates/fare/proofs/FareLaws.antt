@@ -1,4 +1,4 @@
--- A pass over links goes on link by link, and good fares bound the metres, the basic fare, the premiums and so the fare.
+-- Good fares bound the metres, the basic fare, the premiums and so the fare.
 use Prim.Native.Nat.{ℕ, suc, ◌+◌, ◌*◌, ◌≤◌, ◌<◌}
 use mathlib.Core.Path.{◌≡◌, refl, ap}
 use mathlib.Core.List.{List, [], ◌∷◌, map}
@@ -23,24 +23,9 @@ use Rattle.fare.specs.declared.Metres.{Metres}
 use Rattle.fare.specs.Amounts.{largest_held, beyond, dearer, plus, in_won}
 use Rattle.fare.specs.Fares.{Fares, most_metres, most_won, fares_of, fares_good}
 use Rattle.fare.specs.Fare.{ridden, dearest, premiums, fare_of}
-use Rattle.fare.proofs.Dearer.{dearer_assoc, dearer_none, dearer_most}
+use Rattle.fare.proofs.Dearer.{dearer_most}
 use Rattle.fare.proofs.Steps.{steps_most}
 use Rattle.fare.proofs.GoodFares.{good_fares}
-
--- one link more of a pass from the front
-module _ (links : List ℕ) (k : ℕ) (here : k < length links) where
-  pub ridden_on : (metres : ℕ → Metres) → (ridden metres (drop k links)).0 ≡ (metres (get_or links k 0)).0 + (ridden metres (drop (k + 1) links)).0
-  ridden_on metres = rw (drop-cons links k 0 here, add-one k)
-
-  pub dearest_on : (basic : ℕ → Won) (so_far : Won) → dearer so_far (dearest basic (drop k links)) ≡ dearer (dearer so_far (basic (get_or links k 0))) (dearest basic (drop (k + 1) links))
-  dearest_on basic so_far = rw (drop-cons links k 0 here, add-one k) (dearer_assoc so_far (basic (get_or links k 0)) (dearest basic (drop (suc k) links)))
-
-module _ (links : List ℕ) (k : ℕ) (all_passed : length links ≤ k) where
-  pub ridden_end : (metres : ℕ → Metres) → (ridden metres (drop k links)).0 ≡ 0
-  ridden_end metres = rw (drop_of_length-le links all_passed)
-
-  pub dearest_end : (basic : ℕ → Won) (so_far : Won) → dearer so_far (dearest basic (drop k links)) ≡ so_far
-  dearest_end basic so_far = rw (drop_of_length-le links all_passed) (dearer_none so_far)
 
 pub fare_none : (F : Fares) (links : List ℕ) → length links ≡ 0 → fare_of F links ≡ in_won 0
 unfolding fare_of

@@ -22,17 +22,6 @@ each test [] h k l = absurd (omega arith)
 each test (n ∷ rest) h zero l = (both (test n) (all (map test rest)) h).0
 each test (n ∷ rest) h (suc k) l = each test rest (both (test n) (all (map test rest)) h).1 k (omega arith)
 
--- one number more is within its limit, or breaks it
-module _ (most : ℕ) (numbers : List ℕ) (k : ℕ) (here : k < length numbers) where
-  pub within_on : get_or numbers k 0 ≤ most → all_within most (drop k numbers) ≡ all_within most (drop (k + 1) numbers)
-  within_on h = rw (drop-cons numbers k 0 here, le-leb (get_or numbers k 0) most h, add-one k)
-
-  pub within_broken : most < get_or numbers k 0 → all_within most (drop k numbers) ≡ false
-  within_broken h = rw (drop-cons numbers k 0 here, lt-leb (get_or numbers k 0) most h)
-
-pub within_end : (most : ℕ) (numbers : List ℕ) (k : ℕ) → length numbers ≤ k → all_within most (drop k numbers) ≡ true
-within_end most numbers k h = rw (drop_of_length-le numbers h)
-
 -- a part up to the end is all that is left
 pub rest_whole : (k : ℕ) (list : List ℕ) → take (length list - k) (drop k list) ≡ drop k list
 rest_whole k list = ap (λ (n : ℕ). take n (drop k list)) (sym (length-drop k list)) ∙ take-length (drop k list)

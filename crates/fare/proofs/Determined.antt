@@ -1,18 +1,18 @@
 -- What a fare answers and leaves is fixed by what it was lent, since Route's answer is, and the fare is reckoned from it.
 use Prim.Native.Nat.{ℕ}
-use mathlib.Core.Path.{◌≡◌, sym, ap, ◌∙◌}
+use mathlib.Core.Path.{◌≡◌, refl, sym, ap, ◌∙◌}
 use mathlib.Core.List.{List}
 use Rattle.book.specs.declared.Counts.{Counts}
 use Rattle.walk.specs.Labels.{Table}
 use Rattle.walk.proofs.theory.Laws.{clash}
+use Rattle.search.proofs.RouteRoom.{same_figures}
 use Rattle.search.proofs.Determined.{route_determined}
 use Rattle.fare.specs.declared.Terms.{Terms}
-use Rattle.fare.specs.declared.Fared.{Fared}
 use Rattle.fare.specs.Fares.{fares_good}
-use Rattle.fare.specs.Asked.{Faring, refused, bad_fares, done}
+use Rattle.fare.specs.Asked.{FareAnswer, Faring, refused, bad_fares, done}
 
 -- two outcomes that the contract of a fare allows for one input are equal
-pub fare_determined : (book : List ℕ) (r s : ℕ) (turns links : Table) (buffer table : List ℕ) (terms : Terms) (one other : Fared) (after after-other : List ℕ) → Faring book r s turns links buffer table terms one after
+pub fare_determined : (book : List ℕ) (r s : ℕ) (turns links : Table) (buffer table : List ℕ) (terms : Terms) (one other : FareAnswer) (after after-other : List ℕ) → Faring book r s turns links buffer table terms one after
     → Faring book r s turns links buffer table terms other after-other → (one ≡ other) × (after ≡ after-other)
 fare_determined book r s turns links buffer table terms one other a b (refused found w g e) (refused found' w' g' e') =
     let (same, _) = route_determined book r s turns links buffer _ _ _ _ w w' in
@@ -39,7 +39,6 @@ fare_determined book r s turns links buffer table terms one other a b (done cost
 fare_determined book r s turns links buffer table terms one other a b (done cost count w counts h good fare f g) (done cost' count' w' counts' h' good' fare' f' g') =
     let (same, left) = route_determined book r s turns links buffer _ _ _ _ w w' in
     let counts_same : counts ≡ counts' = cc (h, h') in
-    let cost_same : cost ≡ cost' = cc same in
-    let count_same : count ≡ count' = cc same in
+    let (cost_same, count_same) = same_figures refl same in
     let fare-same : fare ≡ fare' = f ∙ rw (counts_same, count_same, left) (sym f') in
     (g.answers ∙ rw (cost_same, count_same, fare-same) (sym g'.answers), left)

@@ -1,4 +1,4 @@
--- A pass over links goes on link by link, and good fares bound the metres, the basic fare, the premiums and so the fare.
+-- Good fares bound the metres, the basic fare, the premiums and so the fare.
 use Prim.Native.Nat.{ℕ, suc, ◌+◌, ◌*◌, ◌≤◌, ◌<◌}
 use mathlib.Core.Path.{◌≡◌, refl, ap}
 use mathlib.Core.List.{List, [], ◌∷◌, map}
@@ -11,7 +11,7 @@ use lib.ListN.{length, get_or, drop, drop_of_length-le}
 use lib.Seq.{drop-cons}
 use borrow.Author.Tests.{ltb-true}
 use Rattle.book.specs.declared.Counts.{Counts}
-use Rattle.book.specs.declared.Checked.TheVariants.{Good}
+use Rattle.std.specs.Prelude.{Ok}
 use Rattle.book.specs.Check.{check_of}
 use Rattle.book.proofs.Limits.{both}
 use Rattle.book.proofs.GoodBook.{good_book}
@@ -23,24 +23,9 @@ use Rattle.fare.specs.declared.Metres.{Metres}
 use Rattle.fare.specs.Amounts.{largest_held, beyond, dearer, plus, in_won}
 use Rattle.fare.specs.Fares.{Fares, most_metres, most_won, fares_of, fares_good}
 use Rattle.fare.specs.Fare.{ridden, dearest, premiums, fare_of}
-use Rattle.fare.proofs.Dearer.{dearer_assoc, dearer_none, dearer_most}
+use Rattle.fare.proofs.Dearer.{dearer_most}
 use Rattle.fare.proofs.Steps.{steps_most}
 use Rattle.fare.proofs.GoodFares.{good_fares}
-
--- one link more of a pass from the front
-module _ (links : List ℕ) (k : ℕ) (here : k < length links) where
-  pub ridden_on : (metres : ℕ → Metres) → (ridden metres (drop k links)).0 ≡ (metres (get_or links k 0)).0 + (ridden metres (drop (k + 1) links)).0
-  ridden_on metres = rw (drop-cons links k 0 here, add-one k)
-
-  pub dearest_on : (basic : ℕ → Won) (so_far : Won) → dearer so_far (dearest basic (drop k links)) ≡ dearer (dearer so_far (basic (get_or links k 0))) (dearest basic (drop (k + 1) links))
-  dearest_on basic so_far = rw (drop-cons links k 0 here, add-one k) (dearer_assoc so_far (basic (get_or links k 0)) (dearest basic (drop (suc k) links)))
-
-module _ (links : List ℕ) (k : ℕ) (all_passed : length links ≤ k) where
-  pub ridden_end : (metres : ℕ → Metres) → (ridden metres (drop k links)).0 ≡ 0
-  ridden_end metres = rw (drop_of_length-le links all_passed)
-
-  pub dearest_end : (basic : ℕ → Won) (so_far : Won) → dearer so_far (dearest basic (drop k links)) ≡ so_far
-  dearest_end basic so_far = rw (drop_of_length-le links all_passed) (dearer_none so_far)
 
 pub fare_none : (F : Fares) (links : List ℕ) → length links ≡ 0 → fare_of F links ≡ in_won 0
 unfolding fare_of
@@ -61,7 +46,7 @@ pub record Limited (count : ℕ) (F : Fares) : Type 0 where
   pub long : 0 < F.terms.step.0
   pub premium : F.terms.premium.0 ≤ most_won
 
-pub limited_fares : (book : List ℕ) (counts : Counts) (table : List ℕ) (terms : Terms) → check_of book ≡ Good counts → fares_good counts table terms ≡ true → Limited counts.links (fares_of (view_of book counts) table terms)
+pub limited_fares : (book : List ℕ) (counts : Counts) (table : List ℕ) (terms : Terms) → check_of book ≡ Ok counts → fares_good counts table terms ≡ true → Limited counts.links (fares_of (view_of book counts) table terms)
 limited_fares book counts table terms checked good =
     let fares = good_fares counts table terms good in
     record {
@@ -104,6 +89,12 @@ module _ (count : ℕ) (F : Fares) (limited : Limited count F) where
         by [] e = omega (arith, ap (λ (x : Won). x.0) (fare_none F links (rw e)))
         by (l ∷ rest) e = omega (arith, ap (λ (x : Won). x.0) (fare_some F links (rw e (omega arith))), dearest_most links exist, premiums_most)
 
-    -- so 64 bits hold the fare of as many links as may be given
+    -- so 64 bits hold the premiums, the sum and the fare of as many links as may be given
+    pub premiums_held : length links ≤ 65535 → (premiums F links).0 ≤ largest_held
+    premiums_held few = omega (arith, premiums_most)
+
+    pub sum_held : length links ≤ 65535 → (dearest (λ l. F.basic (F.line l)) links).0 + (premiums F links).0 ≤ largest_held
+    sum_held few = omega (arith, premiums_most, dearest_most links exist)
+
     pub fare_held : length links ≤ 65535 → (fare_of F links).0 ≤ largest_held
     fare_held few = omega (arith, fare_most)

@@ -13,6 +13,7 @@ use Rattle.book.specs.declared.Counts.{Counts}
 use Rattle.book.proofs.Limits.{both}
 use Rattle.walk.specs.Walks.{all}
 use Rattle.fare.specs.declared.Terms.{Terms}
+use Rattle.fare.specs.steps.Reckoning.{LinksGiven}
 use Rattle.fare.specs.Fares.{most_metres, most_won, all_within, table_good, terms_good, fares_good}
 
 -- a test of all is a test of each
@@ -20,17 +21,6 @@ pub each : (test : ℕ → Bool) (list : List ℕ) → all (map test list) ≡ t
 each test [] h k l = absurd (omega arith)
 each test (n ∷ rest) h zero l = (both (test n) (all (map test rest)) h).0
 each test (n ∷ rest) h (suc k) l = each test rest (both (test n) (all (map test rest)) h).1 k (omega arith)
-
--- one number more is within its limit, or breaks it
-module _ (most : ℕ) (numbers : List ℕ) (k : ℕ) (here : k < length numbers) where
-  pub within_on : get_or numbers k 0 ≤ most → all_within most (drop k numbers) ≡ all_within most (drop (k + 1) numbers)
-  within_on h = rw (drop-cons numbers k 0 here, le-leb (get_or numbers k 0) most h, add-one k)
-
-  pub within_broken : most < get_or numbers k 0 → all_within most (drop k numbers) ≡ false
-  within_broken h = rw (drop-cons numbers k 0 here, lt-leb (get_or numbers k 0) most h)
-
-pub within_end : (most : ℕ) (numbers : List ℕ) (k : ℕ) → length numbers ≤ k → all_within most (drop k numbers) ≡ true
-within_end most numbers k h = rw (drop_of_length-le numbers h)
 
 -- a part up to the end is all that is left
 pub rest_whole : (k : ℕ) (list : List ℕ) → take (length list - k) (drop k list) ≡ drop k list
@@ -62,6 +52,24 @@ good_table counts table h =
       basic = λ k i. omega (arith, get_or-drop counts.links table k 0, leb-true (get_or (drop counts.links table) k 0) most_won (each (λ n. leb n most_won) (drop counts.links table) cheap k (omega (arith, length-drop counts.links table))));
     }
 
+-- a link's metres, and the basic fare of a line
+module _ (counts : Counts) (table : List ℕ) (good : table_good counts table ≡ true) where
+  pub link_inside : (l : ℕ) → l < counts.links → l < length table
+  link_inside l h = omega (arith, (good_table counts table good).size)
+
+  pub line_inside : (k : ℕ) → k < counts.lines → counts.links + k < length table
+  line_inside k h = omega (arith, (good_table counts table good).size)
+
+  pub metres_within : (l : ℕ) → l < counts.links → get_or table l 0 ≤ most_metres
+  metres_within l h = (good_table counts table good).metres l h
+
+  pub basic_within : (k : ℕ) → k < counts.lines → get_or table (counts.links + k) 0 ≤ most_won
+  basic_within k h = (good_table counts table good).basic k h
+
+-- each link that is given is one of the book
+pub link_exists : (counts : Counts) (links : List ℕ) → LinksGiven counts links → (k : ℕ) → k < length links → get_or links k 0 < counts.links
+link_exists counts links given k h = ltb-true _ _ (each (λ l. ltb l counts.links) links given.exist k h)
+
 pub record GoodTerms (terms : Terms) : Type 0 where
   pub distance : terms.distance.0 ≤ most_metres
   pub step : terms.step.0 ≤ most_metres
@@ -86,3 +94,9 @@ unfolding fares_good
 good_fares counts table terms h =
     let (t, u) = both (table_good counts table) (terms_good terms) h in
     record { tabled = t; numbers = good_table counts table t; beside = good_terms terms u }
+
+pub fares_tabled : (counts : Counts) (table : List ℕ) (terms : Terms) → fares_good counts table terms ≡ true → table_good counts table ≡ true
+fares_tabled counts table terms h = (good_fares counts table terms h).tabled
+
+pub step_long : (counts : Counts) (table : List ℕ) (terms : Terms) → fares_good counts table terms ≡ true → 0 < terms.step.0
+step_long counts table terms h = (good_fares counts table terms h).beside.long

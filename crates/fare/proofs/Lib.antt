@@ -4,6 +4,5 @@ pub mod Dearer
 pub mod GoodFares
 pub mod FareLaws
 pub mod FurtherLink
-pub mod Copied
 pub mod FoundLaws
 pub mod Determined

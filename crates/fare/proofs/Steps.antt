@@ -1,11 +1,13 @@
 -- Rounding up divides: the least number of steps that reaches some metres is their quotient with the step, rounded up.
-use Prim.Native.Nat.{ℕ, ◌+◌, ◌-◌, ◌*◌, ◌/◌, ◌≤◌, ◌<◌}
+use Prim.Native.Nat.{ℕ, ◌+◌, ◌*◌, ◌≤◌, ◌<◌}
 use mathlib.Core.Path.{◌≡◌}
 use native.Mathlib.Omega.{arith}
-use native.Mathlib.Nat.{mod-lt, div-add-mod', mul-le-mul_right, le-mul_of_pos_right}
+use native.Mathlib.Nat.{mul-le-mul_right, le-mul_of_pos_right}
 use native.Mathlib.Decide.{dec_lt}
 use lib.Dec.{ltb}
 use borrow.Author.Tests.{ltb-true, ltb-false}
+use Rattle.std.specs.Int.{div_ceil}
+use Rattle.std.proofs.lemmas.Grind.{div_ceil_times}
 use Rattle.book.proofs.FirstBad.{First, first_bad_lem}
 use Rattle.fare.specs.declared.Metres.{Metres}
 use Rattle.fare.specs.Amounts.{started_steps}
@@ -31,24 +33,18 @@ module _ (metres step : Metres) (long : 0 < step.0) where
       by (yes l) = absurd (omega (arith, ltb-true (fewer * step.0) metres.0 (found.before fewer (omega arith) l)))
       by (no l) = omega arith
 
-  abbrev quotient : ℕ
-  quotient = (metres.0 + (step.0 - 1)) / step.0
-
-  quotient_reaches : metres.0 ≤ quotient * step.0
-  quotient_reaches = omega (arith, div-add-mod' (metres.0 + (step.0 - 1)) step.0, mod-lt (metres.0 + (step.0 - 1)) long)
-
-  quotient_least : (fewer : ℕ) → metres.0 ≤ fewer * step.0 → quotient ≤ fewer
-  quotient_least fewer h = by (dec_lt fewer quotient)
+  quotient_least : (fewer : ℕ) → metres.0 ≤ fewer * step.0 → div_ceil metres.0 step.0 ≤ fewer
+  quotient_least fewer h = by (dec_lt fewer (div_ceil metres.0 step.0))
     where
-      by : Dec (fewer < quotient) → quotient ≤ fewer
+      by : Dec (fewer < div_ceil metres.0 step.0) → div_ceil metres.0 step.0 ≤ fewer
       by (yes l) =
-          let more : (fewer + 1) * step.0 ≤ quotient * step.0 = mul-le-mul_right step.0 (omega arith) in
-          absurd (omega (arith, div-add-mod' (metres.0 + (step.0 - 1)) step.0))
+          let more : (fewer + 1) * step.0 ≤ div_ceil metres.0 step.0 * step.0 = mul-le-mul_right step.0 (omega arith) in
+          absurd (omega (arith, (div_ceil_times metres.0 step.0 long).1))
       by (no l) = omega arith
 
-  pub divided : quotient ≡ started_steps metres step
+  pub divided : div_ceil metres.0 step.0 ≡ started_steps metres step
   divided =
-      let low = least quotient quotient_reaches in
+      let low = least (div_ceil metres.0 step.0) (div_ceil_times metres.0 step.0 long).0 in
       let high = quotient_least (started_steps metres step) reaches in
       omega arith
 

@@ -4,48 +4,51 @@ ghost use Rattle.fare.specs.Amounts.{together, dearer, beyond, started_steps, pl
 
 use super::{Metres, Won};
 
-pub fn together(one: Metres, other: Metres) -> Metres
-    requires { one.0 + other.0 ≤ largest_held }
-    ensures { result ≡ together one other }
-{
-    Metres(one.0 + other.0)
-}
-
-pub fn beyond(ridden: Metres, distance: Metres) -> Metres
-    ensures { result ≡ beyond ridden distance }
-{
-    if ridden.0 < distance.0 {
-        return Metres(0);
+impl Metres {
+    pub fn together(self, other: Metres) -> Metres
+        requires { self.0 + other.0 ≤ largest_held }
+        ensures { result ≡ together self other }
+    {
+        Metres(self.0 + other.0)
     }
-    Metres(ridden.0 - distance.0)
-}
 
-pub fn started_steps(metres: Metres, step: Metres) -> u64
-    requires { (0 < step.0) × (metres.0 + step.0 ≤ largest_held) }
-    ensures { result ≡ started_steps metres step }
-{
-    (metres.0 + (step.0 - 1)) / step.0
-}
-
-pub fn dearer(one: Won, other: Won) -> Won
-    ensures { result ≡ dearer one other }
-{
-    if one.0 < other.0 {
-        return other;
+    pub fn beyond(self, distance: Metres) -> Metres
+        ensures { result ≡ beyond self distance }
+    {
+        Metres(self.0.saturating_sub(distance.0))
     }
-    one
+
+    #[tactic(auto, using(crate::proofs::Steps::divided))]
+    pub fn started_steps(self, step: Metres) -> u64
+        requires { 0 < step.0 }
+        ensures { result ≡ started_steps self step }
+    {
+        self.0.div_ceil(step.0)
+    }
 }
 
-pub fn plus(one: Won, other: Won) -> Won
-    requires { one.0 + other.0 ≤ largest_held }
-    ensures { result ≡ plus one other }
-{
-    Won(one.0 + other.0)
-}
+impl Won {
+    pub fn dearer(self, other: Won) -> Won
+        ensures { result ≡ dearer self other }
+    {
+        if self < other {
+            return other;
+        }
+        self
+    }
 
-pub fn times(steps: u64, premium: Won) -> Won
-    requires { steps * premium.0 ≤ largest_held }
-    ensures { result ≡ times steps premium }
-{
-    Won(steps * premium.0)
+    pub fn plus(self, other: Won) -> Won
+        requires { self.0 + other.0 ≤ largest_held }
+        ensures { result ≡ plus self other }
+    {
+        Won(self.0 + other.0)
+    }
+
+    // So much for each of so many steps.
+    pub fn times(self, steps: u64) -> Won
+        requires { steps * self.0 ≤ largest_held }
+        ensures { result ≡ times steps self }
+    {
+        Won(steps * self.0)
+    }
 }

@@ -1,8 +1,6 @@
 // The fare: what the route that was found costs in won, by the distance fare of document 000.
 #![tactic(auto)]
 
-use book::Refusal;
-
 mod amounts;
 mod asking;
 mod reckoning;
@@ -13,10 +11,10 @@ pub use reckoning::fare_of;
 pub use tables::fares_good;
 
 // Won and metres are kept apart; neither may stand where the other is meant.
-#[derive(Clone, Copy)]
+#[derive(Clone, Copy, PartialEq, Eq, PartialOrd, Ord)]
 pub struct Won(pub u64);
 
-#[derive(Clone, Copy)]
+#[derive(Clone, Copy, PartialEq, Eq, PartialOrd, Ord)]
 pub struct Metres(pub u64);
 
 // What stands beside a fare table: the basic distance, the step beyond it, and the premium for a step.
@@ -27,11 +25,19 @@ pub struct Terms {
     pub premium: Won,
 }
 
-// What a fare answers: cost and number of links of Route's own walk and the fare of it, or a refusal.
+// A fare table, lent for reading, and what stands beside it.
 #[derive(Clone, Copy)]
-pub enum Fared {
-    Done(u32, u16, Won),
-    Refused(Refusal),
+pub struct Fares<'a> {
+    pub table: &'a [u32],
+    pub terms: Terms,
+}
+
+// Cost and number of links of Route's own walk, and the fare of it.
+#[derive(Clone, Copy)]
+pub struct Fared {
+    pub cost: u32,
+    pub links: u16,
+    pub fare: Won,
 }
 
 // An answer's number, place, cost, number of links and fare.

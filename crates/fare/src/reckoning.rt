@@ -3,81 +3,72 @@ ghost use Rattle.std.specs.Prelude.{◌≡◌, true, ◌<◌, ◌≤◌};
 ghost use Rattle.book.specs.Tables.{link_table};
 ghost use Rattle.book.specs.Entries.{link_line};
 ghost use Rattle.walk.specs.View.{view_of};
-ghost use Rattle.fare.specs.Fares.{metres_in, basic_in, most_metres, most_won, table_good, fares_of};
+ghost use Rattle.fare.specs.Fares.{metres_in, basic_in, most_metres, most_won, table_good, fares_good, fares_of};
 ghost use Rattle.fare.specs.Fare.{ridden, dearest, fare_of};
-ghost use Rattle.fare.specs.steps.Reckoning.{LinksGiven, Fareable, Reckonable};
+ghost use Rattle.fare.specs.steps.Reckoning.{LinksGiven};
 
-use super::amounts::{beyond, dearer, plus, started_steps, times, together};
-use super::{Metres, Terms, Won};
-use book::{Counts, LinkNumber};
-use search::link_line;
+use super::{Fares, Metres, Won};
+use book::{CheckedBook, Counts, LinkNumber};
 
-fn widened(n: u32) -> u64
-    ensures { result ≡ n }
-{
-    n as u64
-}
-
+#[tactic(auto, using(crate::proofs::GoodFares::link_inside, crate::proofs::GoodFares::metres_within))]
 fn link_metres(counts: Counts, table: &[u32], link: LinkNumber) -> Metres
-    requires { (table_good counts table.now ≡ true) × (link.0 < counts.links) }
-    ensures { (result ≡ metres_in table.now link.0) × (result.0 ≤ most_metres) }
+    requires good { table_good counts table.now ≡ true }
+    requires exists { link.0 < counts.links }
+    ensures told { result ≡ metres_in table.now link.0 }
+    ensures most { result.0 ≤ most_metres }
 {
-    let at = link.0 as usize;
-    Metres(widened(table[at]))
+    Metres(u64::from(table[usize::from(link.0)]))
 }
 
-fn link_basic(book: &[u8], counts: Counts, table: &[u32], link: LinkNumber) -> Won
-    requires { Fareable book.now counts table.now × (link.0 < counts.links) }
-    ensures { (result ≡ basic_in counts.links table.now (link_line (link_table book.now counts) link.0)) × (result.0 ≤ most_won) }
+#[tactic(auto, using(crate::proofs::GoodFares::line_inside, crate::proofs::GoodFares::basic_within))]
+fn link_basic(book: CheckedBook<'_>, table: &[u32], link: LinkNumber) -> Won
+    requires good { table_good book.counts table.now ≡ true }
+    requires exists { link.0 < book.counts.links }
+    ensures told { result ≡ basic_in book.entry.counts.links table.now (link_line (link_table book.entry.bytes.now book.entry.counts) link.0) }
+    ensures most { result.0 ≤ most_won }
 {
-    let at = counts.links + link_line(book, counts, link) as usize;
-    Won(widened(table[at]))
+    let at = book.counts.links + usize::from(book.link_line(link));
+    Won(u64::from(table[at]))
 }
 
+#[tactic(auto, using(crate::proofs::GoodFares::link_exists))]
 fn metres_ridden(counts: Counts, table: &[u32], links: &[u16]) -> Metres
-    requires { (table_good counts table.now ≡ true) × LinksGiven counts links.now }
+    requires good { table_good counts table.now ≡ true }
+    requires given { LinksGiven counts links.now }
     ensures { result ≡ ridden (metres_in table.now) links.now }
 {
     let mut metres = Metres(0);
-    let mut passed = 0;
-    while passed < links.len() {
-        metres = together(
-            metres,
-            link_metres(counts, table, LinkNumber(links[passed])),
-        );
-        passed += 1;
+    for link in links {
+        metres = metres.together(link_metres(counts, table, LinkNumber(*link)));
     }
     metres
 }
 
-fn dearest_basic(book: &[u8], counts: Counts, table: &[u32], links: &[u16]) -> Won
-    requires { Fareable book.now counts table.now × LinksGiven counts links.now }
-    ensures { result ≡ dearest (λ l. basic_in counts.links table.now (link_line (link_table book.now counts) l)) links.now }
+#[tactic(auto, using(crate::proofs::GoodFares::link_exists))]
+fn dearest_basic(book: CheckedBook<'_>, table: &[u32], links: &[u16]) -> Won
+    requires good { table_good book.counts table.now ≡ true }
+    requires given { LinksGiven book.counts links.now }
+    ensures { result ≡ dearest (λ l. basic_in book.entry.counts.links table.now (link_line (link_table book.entry.bytes.now book.entry.counts) l)) links.now }
 {
     let mut basic = Won(0);
-    let mut passed = 0;
-    while passed < links.len() {
-        basic = dearer(
-            basic,
-            link_basic(book, counts, table, LinkNumber(links[passed])),
-        );
-        passed += 1;
+    for link in links {
+        basic = basic.dearer(link_basic(book, table, LinkNumber(*link)));
     }
     basic
 }
 
 // Document 02, request 3: the dearest basic fare among the lines ridden, plus a premium for each started step beyond the basic distance.
-pub fn fare_of(book: &[u8], counts: Counts, table: &[u32], terms: Terms, links: &[u16]) -> Won
-    requires { Reckonable book.now counts table.now terms links.now }
-    ensures { result ≡ fare_of (fares_of (view_of book.now counts) table.now terms) links.now }
+#[tactic(auto, using(crate::proofs::GoodFares::fares_tabled, crate::proofs::GoodFares::step_long, crate::proofs::FareLaws::fare_none))]
+pub fn fare_of(book: CheckedBook<'_>, fares: Fares<'_>, links: &[u16]) -> Won
+    requires good { fares_good book.counts fares.table.now fares.terms ≡ true }
+    requires given { LinksGiven book.counts links.now }
+    ensures { result ≡ fare_of (fares_of (view_of book.entry.bytes.now book.entry.counts) fares.entry.table.now fares.entry.terms) links.now }
 {
-    if links.len() == 0 {
+    if links.is_empty() {
         return Won(0);
     }
-    let distance = terms.distance;
-    let step = terms.step;
-    let premium = terms.premium;
-    let metres = beyond(metres_ridden(counts, table, links), distance);
-    let basic = dearest_basic(book, counts, table, links);
-    plus(basic, times(started_steps(metres, step), premium))
+    let terms = fares.terms;
+    let metres = metres_ridden(book.counts, fares.table, links).beyond(terms.distance);
+    let premiums = terms.premium.times(metres.started_steps(terms.step));
+    dearest_basic(book, fares.table, links).plus(premiums)
 }

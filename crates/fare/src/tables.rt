@@ -2,7 +2,7 @@
 ghost use Rattle.std.specs.Prelude.{◌≡◌};
 ghost use Rattle.fare.specs.Fares.{all_within, table_good, terms_good, fares_good};
 
-use super::Terms;
+use super::{Fares, Terms};
 use book::Counts;
 
 // The most metres of a link, of the basic distance and of a step, and the most won of a basic fare and of a premium.
@@ -13,16 +13,16 @@ const MOST_WON: u32 = 100000;
 fn all_within(numbers: &[u32], most: u32) -> bool
     ensures { result ≡ all_within most numbers.now }
 {
-    let mut passed = 0;
-    while passed < numbers.len() {
-        if most < numbers[passed] {
+    for number in numbers {
+        if most < *number {
             return false;
         }
-        passed += 1;
     }
     true
 }
 
+// The length is tested by a difference, since a sum of any two counts may not be held.
+#[tactic(auto, using(crate::proofs::GoodFares::other_length, crate::proofs::GoodFares::right_length, crate::proofs::GoodFares::rest_whole))]
 fn table_good(counts: Counts, table: &[u32]) -> bool
     ensures { result ≡ table_good counts table.now }
 {
@@ -37,16 +37,18 @@ fn table_good(counts: Counts, table: &[u32]) -> bool
     all_within(&table[..links], MOST_METRES) & all_within(&table[links..], MOST_WON)
 }
 
+#[tactic(auto, unfolding(crate::specs::Fares::terms_good))]
 fn terms_good(terms: Terms) -> bool
     ensures { result ≡ terms_good terms }
 {
-    (terms.distance.0 <= MOST_METRES as u64)
-        & ((terms.step.0 <= MOST_METRES as u64)
-            & ((0 < terms.step.0) & (terms.premium.0 <= MOST_WON as u64)))
+    (terms.distance.0 <= u64::from(MOST_METRES))
+        & ((terms.step.0 <= u64::from(MOST_METRES))
+            & ((0 < terms.step.0) & (terms.premium.0 <= u64::from(MOST_WON))))
 }
 
-pub fn fares_good(counts: Counts, table: &[u32], terms: Terms) -> bool
-    ensures { result ≡ fares_good counts table.now terms }
+#[tactic(auto, unfolding(crate::specs::Fares::fares_good))]
+pub fn fares_good(counts: Counts, fares: Fares<'_>) -> bool
+    ensures { result ≡ fares_good counts fares.entry.table.now fares.entry.terms }
 {
-    table_good(counts, table) & terms_good(terms)
+    table_good(counts, fares.table) & terms_good(fares.terms)
 }

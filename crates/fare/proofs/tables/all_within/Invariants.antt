@@ -1,11 +1,7 @@
-use Prim.Native.Nat.{◌≤◌, ◌-◌}
-use mathlib.Core.Path.{◌≡◌}
-use lib.ListN.{length, drop}
+-- Where the numbers passed are within their limit, all are exactly when those left are.
+use Rattle.std.proofs.Common.{◌≡◌, drop}
 use Rattle.fare.specs.Fares.{all_within}
 use Rattle.fare.proofs.tables.all_within.Given as goal
 
-abbrev pub invariant-loop-passed : goal.invariant-loop-passed
-invariant-loop-passed l = (l.passed ≤ length l.numbers) × (all_within l.most l.numbers ≡ all_within l.most (drop l.passed l.numbers))
-
-abbrev pub decreases-loop-passed : goal.decreases-loop-passed
-decreases-loop-passed l = length l.numbers - l.passed
+abbrev pub invariant-loop-number : goal.invariant-loop-number
+invariant-loop-number l = all_within l.most l.numbers ≡ all_within l.most (drop l.number-index l.numbers)

@@ -1,8 +1,0 @@
--- Each case of the answer has its own line in the definition.
-use Rattle.fare.proofs.asking.fare_given_back.Goals as goal
-
-pub returns-in-Done : goal.returns-in-Done
-returns-in-Done c = rw c.in-Done.is
-
-pub returns-in-Refused : goal.returns-in-Refused
-returns-in-Refused c = rw c.in-Refused.is

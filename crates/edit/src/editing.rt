@@ -8,9 +8,10 @@ ghost use Rattle.edit.specs.steps.Onward.{Asked, Relabelled};
 use super::counting::count_differing;
 use super::keeping::keep_table;
 use super::{EditFigures, Edited};
-use book::{CheckedBook, Counts, MOST_LINKS, MOST_TURNS, NodeNumber, Refusal, TurnNumber};
+use book::{Counts, MOST_LINKS, MOST_TURNS, NodeNumber, TurnNumber};
 use search::{
-    Label, LabelsMut, check, labels_true, length_test, node_test, search, seconds_good, write_walk,
+    CheckedBook, Label, LabelsMut, Refusal, check, labels_true, length_test, node_test, search,
+    seconds_good, write_walk,
 };
 
 const NOT_KEPT: Label = Label {

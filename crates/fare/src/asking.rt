@@ -7,8 +7,8 @@ ghost use Rattle.fare.specs.steps.Reckoning.{LinksGiven, FoundFare};
 use super::reckoning::fare_of;
 use super::tables::fares_good;
 use super::{FareFigures, Fared, Fares, Won};
-use book::{CheckedBook, NodeNumber, Refusal};
-use search::{Labels, ROUTE_ROOM, check, route};
+use book::NodeNumber;
+use search::{CheckedBook, Labels, ROUTE_ROOM, Refusal, check, route};
 
 // Tests 15 and 17 of a walk that was found; only then is a link of it written.
 fn fare_found(

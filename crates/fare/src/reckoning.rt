@@ -8,7 +8,8 @@ ghost use Rattle.fare.specs.Fare.{ridden, dearest, fare_of};
 ghost use Rattle.fare.specs.steps.Reckoning.{LinksGiven};
 
 use super::{Fares, Metres, Won};
-use book::{CheckedBook, Counts, LinkNumber};
+use book::{Counts, LinkNumber};
+use search::CheckedBook;
 
 #[tactic(auto, using(crate::proofs::GoodFares::link_inside, crate::proofs::GoodFares::metres_within))]
 fn link_metres(counts: Counts, table: &[u32], link: LinkNumber) -> Metres

@@ -7,8 +7,8 @@ ghost use Rattle.search.specs.steps.Tables.{Sized};
 ghost use Rattle.search.specs.steps.Judging.{Tells};
 
 use super::Labels;
-use book::{CheckedBook, MOST_TURNS, NodeNumber};
-use walk::{Viewed, read_walks};
+use book::{MOST_TURNS, NodeNumber};
+use walk::{CheckedBook, Viewed, read_walks};
 
 // Labels lent to be judged, of as many entries as the book has turns and links.
 #[derive(Clone, Copy)]

@@ -25,7 +25,9 @@ pub use judging::labels_true;
 pub use routing::{route, route_given_back};
 pub use searching::{given_back, search};
 pub use tests::{length_test, node_test};
-pub use walk::{check, cost_of, link_line, number_at, seconds_good, split_in, write_walk};
+pub use walk::{
+    CheckedBook, Refusal, check, cost_of, number_at, seconds_good, split_in, write_walk,
+};
 
 // Cost, number of links and back of one entry.
 #[derive(Clone, Copy, PartialEq, Eq, PartialOrd, Ord)]

@@ -10,8 +10,8 @@ use super::judging::Judge;
 use super::tests::{length_test, node_test};
 use super::tracing::trace;
 use super::{Labels, RouteFigures, Routed};
-use book::{CheckedBook, MOST_TURNS, NodeNumber, Refusal};
-use walk::{Viewed, check, read_walks};
+use book::{MOST_TURNS, NodeNumber};
+use walk::{CheckedBook, Refusal, Viewed, check, read_walks};
 
 // Tests 14 and 15 over true labels, and the walk.
 fn route_onward(

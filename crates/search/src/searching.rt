@@ -11,8 +11,8 @@ use super::ends::end_turns;
 use super::settling::label_turns;
 use super::starts::start_links;
 use super::tests::{length_test, node_test};
-use book::{CheckedBook, GivenBack, MOST_TURNS, NodeNumber, Refusal};
-use walk::{Viewed, check, read_walks};
+use book::{GivenBack, MOST_TURNS, NodeNumber};
+use walk::{CheckedBook, Refusal, Viewed, check, read_walks};
 
 // Every entry, from this origin, whatever the buffers held.
 fn label_all(
@@ -59,5 +59,5 @@ pub fn search(
 pub fn given_back(answer: Result<(), Refusal>) -> GivenBack
     ensures { result ≡ search_given_back answer }
 {
-    book::given_back(answer)
+    walk::given_back(answer)
 }

@@ -4,7 +4,8 @@ ghost use Rattle.search.specs.Lent.{labels_in};
 ghost use Rattle.search.specs.Tests.{fits, node_test, length_test};
 
 use super::Labels;
-use book::{Counts, NodeNumber, Refusal};
+use book::{Counts, NodeNumber};
+use walk::Refusal;
 
 #[tactic(auto, unfolding(crate::specs::Tests::node_test))]
 pub fn node_test(counts: Counts, node: NodeNumber) -> Result<Counts, Refusal>

@@ -3,7 +3,7 @@
 
 ghost use Rattle.std.specs.Prelude.{◌≡◌, length};
 
-use book::{CheckedBook, Refusal, TurnNumber};
+use book::TurnNumber;
 
 mod figures;
 mod given;
@@ -15,10 +15,9 @@ mod steps;
 mod turns;
 mod walks;
 
-pub use book::{check, number_at, seconds_good, write_walk};
+pub use book::{CheckedBook, Refusal, check, given_back, number_at, seconds_good, write_walk};
 pub use figures::START_BACK;
 pub use given::cost_of;
-pub use offered::link_line;
 pub use splits::split_in;
 pub use walks::read_walks;
 

@@ -1,18 +1,9 @@
 // What the layers above need of the day book, offered on.
 ghost use Rattle.std.specs.Prelude.{◌≡◌, ◌<◌};
-ghost use Rattle.book.specs.Tables.{link_table};
-ghost use Rattle.book.specs.Entries.{link_line};
 ghost use Rattle.walk.specs.View.{view_in};
 
 use super::Viewed;
-use book::{CheckedBook, LinkNumber, NodeNumber, TurnNumber};
-
-pub fn link_line(book: CheckedBook<'_>, link: LinkNumber) -> u16
-    requires { link.0 < book.counts.links }
-    ensures { result ≡ link_line (link_table book.entry.bytes.now book.entry.counts) link.0 }
-{
-    book.link_line(link)
-}
+use book::{LinkNumber, NodeNumber, TurnNumber};
 
 impl Viewed<'_> {
     pub fn link_from(self, link: LinkNumber) -> NodeNumber

@@ -1,12 +1,11 @@
 -- Where the tests of an edit do not refuse, the book is good, origin and turn are in it, the walk is allowed and the buffers have the book's lengths.
 use Prim.Native.Nat.{ℕ, ◌<◌}
-use mathlib.Core.Path.{◌≡◌, sym, ◌∙◌}
+use mathlib.Core.Path.{◌≡◌}
 use mathlib.Core.List.{List}
 use mathlib.Core.Bool.{true, ◌&&◌}
 use lib.Dec.{ltb}
 use borrow.Author.Tests.{ltb-true}
 use Rattle.book.specs.declared.Counts.{Counts}
-use Rattle.book.specs.declared.Refusal.{Refusal}
 use Rattle.std.specs.Prelude.{Ok, Err}
 use Rattle.book.specs.Entries.{seconds_good}
 use Rattle.book.specs.Check.{Checked, check_of}
@@ -48,17 +47,3 @@ edit_passed book r turn walk turns links counts h =
     let (noded, listed, allowed) = turn_passed (node_test (check_of book) r) turn walk counts turned in
     let (checked, origin) = node_passed (check_of book) r counts noded in
     record { checked = checked; origin = origin; listed = listed; allowed = allowed; turns_sized = turns_sized; links_sized = links_sized }
-
--- test 11 asked of the counts that the check found
-pub turn_leaves : (checked : Checked) (turn walk : ℕ) (found : Refusal) → checked ≡ Err found → turn_test checked turn walk ≡ Err found
-unfolding turn_test
-turn_leaves checked turn walk found e = rw e
-
-module _ {checked : Checked} {counts : Counts} (good : checked ≡ Ok counts) (turn walk : ℕ) where
-  pub turn_stands : {answer : Checked} {kept : Counts} → answer ≡ turn_test (Ok counts) turn walk → answer ≡ Ok kept → turn_test checked turn walk ≡ Ok counts
-  turn_stands told was =
-      let passes = sym told ∙ was in
-      rw good (passes ∙ sym (turn_passed _ turn walk _ passes).0)
-
-  pub turn_refuses : {answer : Checked} {found : Refusal} → answer ≡ turn_test (Ok counts) turn walk → answer ≡ Err found → turn_test checked turn walk ≡ Err found
-  turn_refuses told was = rw good (sym told ∙ was)

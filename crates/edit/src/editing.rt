@@ -22,9 +22,14 @@ const NOT_KEPT: Label = Label {
 
 // Test 11, after what the earlier tests answered.
 #[tactic(auto, unfolding(crate::specs::Edit::turn_test))]
-fn turn_test(counts: Counts, turn: TurnNumber, walk: u16) -> Result<Counts, Refusal>
-    ensures { result ≡ turn_test (Ok counts) turn.0 walk }
+fn turn_test(
+    answer: Result<Counts, Refusal>,
+    turn: TurnNumber,
+    walk: u16,
+) -> Result<Counts, Refusal>
+    ensures { result ≡ turn_test answer turn.0 walk }
 {
+    let counts = answer?;
     if !(((turn.0 as usize) < counts.turns) & seconds_good(walk)) {
         return Err(Refusal::BadChange);
     }
@@ -124,10 +129,8 @@ pub fn edit(
     ensures edited { Edit book.old origin.0 turn.0 walk (table_in turns.old) (table_in links.old) result book.new (table_in turns.new) (table_in links.new) }
     ensures same { SameBuffers turns.old turns.new × SameBuffers links.old links.new }
 {
-    let counts = check(book)?;
-    node_test(counts, origin)?;
-    turn_test(counts, turn, walk)?;
-    length_test(counts, turns.lent(), links.lent())?;
+    let turn_tested = turn_test(node_test(check(book), origin), turn, walk);
+    let counts = length_test(turn_tested, turns.lent(), links.lent())?;
     edit_judged(book, counts, origin, turn, walk, turns, links)
 }
 

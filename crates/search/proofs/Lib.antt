@@ -20,7 +20,6 @@ pub mod JudgedLeast
 pub mod Judged
 pub mod OwnWalks
 pub mod Tested
-pub mod TestsInTurn
 pub mod RouteLaws
 pub mod RouteRoom
 pub mod RouteAccounted

@@ -1,30 +1,31 @@
 // The best of the links that enter a destination.
-ghost use Rattle.std.specs.Prelude.{◌≡◌, ◌<◌};
-ghost use Rattle.walk.specs.View.{view_in};
-ghost use Rattle.search.specs.Lent.{labels_in};
-ghost use Rattle.search.specs.steps.Tables.{as_entry, Sized};
+ghost use Rattle.std.specs.Prelude.{◌≡◌, ◌<◌, length};
+ghost use Rattle.book.specs.Tables.{link_table};
+ghost use Rattle.book.specs.Entries.{link_to};
+ghost use Rattle.search.specs.steps.Tables.{as_entry};
 ghost use Rattle.search.specs.steps.Arriving.{better_of, best_into, arrival_of};
 
 use super::figures::{NO_WALK, UNREACHED};
 use super::{Arrival, Label, Labels};
 use book::{LinkNumber, NodeNumber};
-use walk::Viewed;
+use walk::CheckedBook;
 
 // The better of the label held and the link's own, where the link is reached and enters the destination.
 fn better_of(
-    view: Viewed<'_>,
+    book: CheckedBook<'_>,
     destination: NodeNumber,
     links: Labels<'_>,
     link: LinkNumber,
     held: Label,
 ) -> Label
-    requires { Sized view.book.counts.links (labels_in links) × (link.0 < view.book.counts.links) }
-    ensures { as_entry result ≡ better_of (view_in view.entry).to links.entry.cost.now links.entry.links.now destination.0 link.0 (as_entry held) }
+    requires sized { (length links.cost.now ≡ book.counts.links) × (length links.links.now ≡ book.counts.links) }
+    requires exists { link.0 < book.counts.links }
+    ensures { as_entry result ≡ better_of (link_to (link_table book.entry.bytes.now book.entry.counts)) links.entry.cost.now links.entry.links.now destination.0 link.0 (as_entry held) }
 {
     if links.cost[link.0 as usize] == UNREACHED {
         return held;
     }
-    let to = view.link_to(link);
+    let to = book.link_to(link);
     if to.0 != destination.0 {
         return held;
     }
@@ -37,24 +38,28 @@ fn better_of(
 
 // The best label of the links that enter a destination, whose back is the link's own number; or no walk.
 #[tactic(auto, unfolding(crate::specs::steps::Arriving::best_into))]
-fn best_label(view: Viewed<'_>, destination: NodeNumber, links: Labels<'_>) -> Label
-    requires { Sized view.book.counts.links (labels_in links) }
-    ensures { as_entry result ≡ best_into (view_in view.entry).to links.entry.cost.now links.entry.links.now destination.0 view.entry.book.counts.links }
+fn best_label(book: CheckedBook<'_>, destination: NodeNumber, links: Labels<'_>) -> Label
+    requires { (length links.cost.now ≡ book.counts.links) × (length links.links.now ≡ book.counts.links) }
+    ensures { as_entry result ≡ best_into (link_to (link_table book.entry.bytes.now book.entry.counts)) links.entry.cost.now links.entry.links.now destination.0 book.entry.counts.links }
 {
     let mut best = NO_WALK;
-    for link in 0..view.book.counts.links as u16 {
-        best = better_of(view, destination, links, LinkNumber(link), best);
+    for link in 0..book.counts.links as u16 {
+        best = better_of(book, destination, links, LinkNumber(link), best);
     }
     best
 }
 
 // Document 01's last link of the route: of the links that enter the destination the best, with its figures.
 #[tactic(auto, unfolding(crate::specs::steps::Arriving::arrival_of))]
-pub fn best_into(view: Viewed<'_>, destination: NodeNumber, links: Labels<'_>) -> Option<Arrival>
-    requires { Sized view.book.counts.links (labels_in links) }
-    ensures { result ≡ arrival_of (best_into (view_in view.entry).to links.entry.cost.now links.entry.links.now destination.0 view.entry.book.counts.links) }
+pub fn best_into(
+    book: CheckedBook<'_>,
+    destination: NodeNumber,
+    links: Labels<'_>,
+) -> Option<Arrival>
+    requires { (length links.cost.now ≡ book.counts.links) × (length links.links.now ≡ book.counts.links) }
+    ensures { result ≡ arrival_of (best_into (link_to (link_table book.entry.bytes.now book.entry.counts)) links.entry.cost.now links.entry.links.now destination.0 book.entry.counts.links) }
 {
-    let label = best_label(view, destination, links);
+    let label = best_label(book, destination, links);
     if label.cost == UNREACHED {
         return None;
     }

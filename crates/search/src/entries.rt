@@ -67,7 +67,7 @@ impl Labels<'_> {
 
     // What a turn or a link offers: its figures, and its own number as the back.
     pub fn own(self, entry: u16) -> Label
-        requires { Holds (labels_in self) entry }
+        requires { (entry < length self.cost.now) × (entry < length self.links.now) }
         ensures { as_entry result ≡ own_label self.entry.cost.now self.entry.links.now entry }
     {
         Label {

@@ -13,6 +13,7 @@ use super::Label;
 use super::judging::Judge;
 use super::starts::start_of;
 use book::TurnNumber;
+use walk::{followers, pair_from, pairs_of};
 
 impl Judge<'_, '_> {
     // Whether what turn `before`, of this label, offers a turn goes ahead of its label; the pairs of `before` end at `to`, and those before `at` are of earlier turns.
@@ -45,14 +46,14 @@ impl Judge<'_, '_> {
         ensures { result ≡ every_below (λ v. not (overtaken (view_in self.entry.view) before.0 label.cost label.links (labels_in self.entry.turns) v)) self.entry.view.book.counts.turns }
     {
         let link = self.view.turn_second(before);
-        let run = self.view.followers(link);
-        let pairs = self.view.pairs_of(before);
+        let run = followers(self.view.book, link);
+        let pairs = pairs_of(self.view.book, before);
         let start = run.start;
         let end = run.end;
         let to = pairs.end;
         let mut at = pairs.start;
         for turn in start..end {
-            at = self.view.pair_from(at, to, TurnNumber(turn));
+            at = pair_from(self.view.book, at, to, TurnNumber(turn));
             if self.is_overtaken(at, to, before, label, TurnNumber(turn)) {
                 return false;
             }

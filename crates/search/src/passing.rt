@@ -11,7 +11,7 @@ ghost use Rattle.search.specs.steps.Passing.{StepFits, passed_by, passed_to};
 
 use super::{Label, LabelsMut};
 use book::TurnNumber;
-use walk::Viewed;
+use walk::{Viewed, followers, pair_from, pairs_of};
 
 // Passes the label of turn `before` on to one turn; its pairs end at `to`, and those before `at` are of earlier turns.
 fn pass(
@@ -43,14 +43,14 @@ pub fn spread(view: Viewed<'_>, before: TurnNumber, label: Label, turns: &mut La
     ensures same { SameBuffers turns.old turns.new }
 {
     let link = view.turn_second(before);
-    let run = view.followers(link);
-    let pairs = view.pairs_of(before);
+    let run = followers(view.book, link);
+    let pairs = pairs_of(view.book, before);
     let start = run.start;
     let end = run.end;
     let to = pairs.end;
     let mut at = pairs.start;
     for turn in start..end {
-        at = view.pair_from(at, to, TurnNumber(turn));
+        at = pair_from(view.book, at, to, TurnNumber(turn));
         pass(view, at, to, before, label, TurnNumber(turn), turns);
     }
 }

@@ -29,7 +29,7 @@ fn route_onward(
     if origin.0 == destination.0 {
         return Ok(Routed { cost: 0, links: 0 });
     }
-    let Some(arrival) = best_into(view, destination, links) else {
+    let Some(arrival) = best_into(view.book, destination, links) else {
         return Err(Refusal::NoWalk);
     };
     if route.len() < arrival.links as usize {
@@ -91,10 +91,8 @@ pub fn route<'l>(
 ) -> Result<Routed, Refusal>
     ensures { Routing book.now origin.0 destination.0 (labels_in turns.entry) (labels_in links.entry) route.old result route.new }
 {
-    let counts = check(book)?;
-    node_test(counts, origin)?;
-    node_test(counts, destination)?;
-    length_test(counts, turns, links)?;
+    let nodes_tested = node_test(node_test(check(book), origin), destination);
+    let counts = length_test(nodes_tested, turns, links)?;
     route_judged(
         CheckedBook::carry(book, counts),
         origin,

@@ -48,9 +48,8 @@ pub fn search(
     ensures searched { Search book.now origin.0 (table_in turns.old) (table_in links.old) result (table_in turns.new) (table_in links.new) }
     ensures same { SameBuffers turns.old turns.new × SameBuffers links.old links.new }
 {
-    let counts = check(book)?;
-    node_test(counts, origin)?;
-    length_test(counts, turns.lent(), links.lent())?;
+    let node_tested = node_test(check(book), origin);
+    let counts = length_test(node_tested, turns.lent(), links.lent())?;
     label_all(CheckedBook::carry(book, counts), origin, turns, links);
     Ok(())
 }

@@ -8,7 +8,7 @@ ghost use Rattle.search.specs.steps.Starts.{start_entry, alone_entry};
 use super::figures::NO_WALK;
 use super::{Label, LabelsMut};
 use book::{BARRED, LinkNumber, NodeNumber, TurnNumber};
-use walk::{START_BACK, Viewed};
+use walk::{START_BACK, Viewed, link_cost};
 
 // A turn of two links, where it is open and its first link leaves the origin.
 pub fn start_of(view: Viewed<'_>, origin: NodeNumber, turn: TurnNumber) -> Label
@@ -24,7 +24,7 @@ pub fn start_of(view: Viewed<'_>, origin: NodeNumber, turn: TurnNumber) -> Label
         return NO_WALK;
     }
     Label {
-        cost: view.link_cost(first) + view.turn_cost(turn),
+        cost: link_cost(view.book, first) + view.turn_cost(turn),
         links: 2,
         back: START_BACK,
     }
@@ -51,7 +51,7 @@ pub fn alone(view: Viewed<'_>, origin: NodeNumber, link: LinkNumber) -> Label
         return NO_WALK;
     }
     Label {
-        cost: view.link_cost(link),
+        cost: link_cost(view.book, link),
         links: 1,
         back: START_BACK,
     }

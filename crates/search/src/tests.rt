@@ -1,5 +1,5 @@
 // Tests 10 and 12, each after what the earlier tests answered.
-ghost use Rattle.std.specs.Prelude.{◌≡◌, Ok};
+ghost use Rattle.std.specs.Prelude.{◌≡◌};
 ghost use Rattle.search.specs.Lent.{labels_in};
 ghost use Rattle.search.specs.Tests.{fits, node_test, length_test};
 
@@ -8,9 +8,10 @@ use book::{Counts, NodeNumber};
 use walk::Refusal;
 
 #[tactic(auto, unfolding(crate::specs::Tests::node_test))]
-pub fn node_test(counts: Counts, node: NodeNumber) -> Result<Counts, Refusal>
-    ensures { result ≡ node_test (Ok counts) node.0 }
+pub fn node_test(answer: Result<Counts, Refusal>, node: NodeNumber) -> Result<Counts, Refusal>
+    ensures { result ≡ node_test answer node.0 }
 {
+    let counts = answer?;
     if counts.nodes <= node.0 as usize {
         return Err(Refusal::NoNode);
     }
@@ -27,9 +28,14 @@ impl Labels<'_> {
 }
 
 #[tactic(auto, unfolding(crate::specs::Tests::length_test))]
-pub fn length_test(counts: Counts, turns: Labels<'_>, links: Labels<'_>) -> Result<Counts, Refusal>
-    ensures { result ≡ length_test (Ok counts) (labels_in turns.entry) (labels_in links.entry) }
+pub fn length_test(
+    answer: Result<Counts, Refusal>,
+    turns: Labels<'_>,
+    links: Labels<'_>,
+) -> Result<Counts, Refusal>
+    ensures { result ≡ length_test answer (labels_in turns.entry) (labels_in links.entry) }
 {
+    let counts = answer?;
     if !(turns.fit(counts.turns) & links.fit(counts.links)) {
         return Err(Refusal::LabelLength);
     }

@@ -12,7 +12,7 @@ use Rattle.book.specs.declared.TurnNumber.{TurnNumber}
 use Rattle.book.specs.Check.{check_of}
 use Rattle.walk.specs.declared.Between.{Between}
 use Rattle.walk.specs.declared.Split.{Split}
-use Rattle.walk.specs.View.{View, view_with}
+use Rattle.walk.specs.View.{View, view_with, view_of}
 use Rattle.walk.specs.Walks.{turn_of, allowed, seconds}
 use Rattle.walk.specs.steps.Splits.{turn_split}
 use Rattle.walk.specs.steps.Backwards.{may_come, extra_after, step_permitted, step_split}
@@ -72,21 +72,26 @@ module _ (book : List ℕ) (counts : Counts) (walks : List ℕ) (checked : check
   good : GoodView U
   good = good_view book counts walks checked
 
-  pub missing_stops : None ≡ turn_found U a b → None ≡ one_more U before a b
-  unfolding one_more
-  missing_stops found = rw (no_turn U good a b (turns_so_far before) (ltb-false _ _ (found_none _ _ found)))
+  -- the walks have no part in it
+  same_found : turn_found (view_of book counts) a b ≡ turn_found U a b
+  unfolding turn_of
+  same_found = refl
 
-  pub found_within : {t : TurnNumber} → Some t ≡ turn_found U a b → t.0 < counts.turns
+  pub missing_stops : None ≡ turn_found (view_of book counts) a b → None ≡ one_more U before a b
+  unfolding one_more
+  missing_stops found = rw (no_turn U good a b (turns_so_far before) (ltb-false _ _ (found_none _ _ (found ∙ same_found))))
+
+  pub found_within : {t : TurnNumber} → Some t ≡ turn_found (view_of book counts) a b → t.0 < counts.turns
   found_within found =
-      let (listed, same) = found_some _ _ found in
+      let (listed, same) = found_some _ _ (found ∙ same_found) in
       omega (arith, ltb-true _ _ listed)
 
-  module _ {t : TurnNumber} (found : Some t ≡ turn_found U a b) {goes : Bool} {stands : Between} (stood : stands ≡ stands_after U t.0 (turns_so_far before)) (stepping : goes ≡ may_step U stands t.0) where
+  module _ {t : TurnNumber} (found : Some t ≡ turn_found (view_of book counts) a b) {goes : Bool} {stands : Between} (stood : stands ≡ stands_after U t.0 (turns_so_far before)) (stepping : goes ≡ may_step U stands t.0) where
     turn : t.0 ≡ turn_of U a b
-    turn = (found_some _ _ found).1
+    turn = (found_some _ _ (found ∙ same_found)).1
 
     as_permitted : goes ≡ step_permitted U b a (turns_so_far before)
-    as_permitted = stepping ∙ rw (stood, turn) (step_goes U good a b (turns_so_far before) (ltb-true _ _ (found_some _ _ found).0))
+    as_permitted = stepping ∙ rw (stood, turn) (step_goes U good a b (turns_so_far before) (ltb-true _ _ (found_some _ _ (found ∙ same_found)).0))
 
     pub barred_stops : goes ≡ false → None ≡ one_more U before a b
     unfolding one_more

@@ -18,7 +18,10 @@ mod walks;
 pub use book::{CheckedBook, Refusal, check, given_back, number_at, seconds_good, write_walk};
 pub use figures::START_BACK;
 pub use given::cost_of;
+pub use pairs::{pair_from, pairs_of};
 pub use splits::split_in;
+pub use steps::link_cost;
+pub use turns::{followers, turn_of};
 pub use walks::read_walks;
 
 // A checked book, with the walks as seen, one number a turn.

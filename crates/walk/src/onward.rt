@@ -3,6 +3,7 @@ ghost use Rattle.std.specs.Prelude.{◌≡◌, ◌<◌, IfSome};
 ghost use Rattle.walk.specs.View.{view_in};
 ghost use Rattle.walk.specs.steps.Onward.{stands_after, turns_so_far, one_more};
 
+use super::turns::turn_of;
 use super::{Added, Between, Viewed};
 use book::{LinkNumber, TurnNumber};
 
@@ -28,7 +29,7 @@ impl Viewed<'_> {
         requires { IfSome before (λ p. p.0 < self.book.counts.turns) }
         ensures { result ≡ one_more (view_in self.entry) before last.0 link.0 }
     {
-        let turn = self.turn_of(last, link)?;
+        let turn = turn_of(self.book, last, link)?;
         let stands = self.stands_after(before, turn);
         if !self.may_step(stands, turn) {
             return None;

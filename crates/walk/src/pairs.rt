@@ -9,36 +9,36 @@ ghost use Rattle.walk.specs.Walks.{look_up, listed_as, between, allowed, seconds
 ghost use Rattle.walk.specs.steps.Pairs.{pair_from, listed_at};
 
 use super::{Between, Viewed};
-use book::{BARRED, TurnNumber};
+use book::{BARRED, CheckedBook, TurnNumber};
 use std::ops::Range;
 
-impl Viewed<'_> {
-    // The pairs whose first turn is this one.
-    pub fn pairs_of(self, turn: TurnNumber) -> Range<u16>
-        ensures start { result.start ≡ run_from (pair_table self.entry.book.bytes.now self.entry.book.counts) self.entry.book.counts.pairs turn.0 }
-        ensures end { result.end ≡ run_from (pair_table self.entry.book.bytes.now self.entry.book.counts) self.entry.book.counts.pairs (turn.0 + 1) }
-        ensures within { (result.start ≤ result.end) × (result.end ≤ self.entry.book.counts.pairs) }
-    {
-        let number = turn.0 as usize;
-        let start = self.book.pairs_from(number) as u16;
-        let end = self.book.pairs_from(number + 1) as u16;
-        start..end
-    }
+// The pairs whose first turn is this one.
+pub fn pairs_of(book: CheckedBook<'_>, turn: TurnNumber) -> Range<u16>
+    ensures start { result.start ≡ run_from (pair_table book.entry.bytes.now book.entry.counts) book.entry.counts.pairs turn.0 }
+    ensures end { result.end ≡ run_from (pair_table book.entry.bytes.now book.entry.counts) book.entry.counts.pairs (turn.0 + 1) }
+    ensures within { (result.start ≤ result.end) × (result.end ≤ book.entry.counts.pairs) }
+{
+    let number = turn.0 as usize;
+    let start = book.pairs_from(number) as u16;
+    let end = book.pairs_from(number + 1) as u16;
+    start..end
+}
 
-    // The first pair from `from` up to `to` whose second turn is this one or a later one, or `to`.
-    pub fn pair_from(self, from: u16, to: u16, turn: TurnNumber) -> u16
-        requires { (from ≤ to) × (to ≤ self.book.counts.pairs) }
-        ensures { result ≡ pair_from (pair_table self.entry.book.bytes.now self.entry.book.counts) from to turn.0 }
-    {
-        for pair in from..to {
-            let second = self.book.pair_second(pair);
-            if turn.0 <= second.0 {
-                return pair;
-            }
+// The first pair from `from` up to `to` whose second turn is this one or a later one, or `to`.
+pub fn pair_from(book: CheckedBook<'_>, from: u16, to: u16, turn: TurnNumber) -> u16
+    requires { (from ≤ to) × (to ≤ book.counts.pairs) }
+    ensures { result ≡ pair_from (pair_table book.entry.bytes.now book.entry.counts) from to turn.0 }
+{
+    for pair in from..to {
+        let second = book.pair_second(pair);
+        if turn.0 <= second.0 {
+            return pair;
         }
-        to
     }
+    to
+}
 
+impl Viewed<'_> {
     // What stands between two turns, where the first one's pairs end at `to` and those before `at` are of earlier second turns.
     pub fn between_at(self, at: u16, to: u16, before: TurnNumber, turn: TurnNumber) -> Between
         requires turns { (before.0 < self.book.counts.turns) × (turn.0 < self.book.counts.turns) }
@@ -61,8 +61,8 @@ impl Viewed<'_> {
         requires { (before.0 < self.book.counts.turns) × (turn.0 < self.book.counts.turns) }
         ensures { result ≡ between (view_in self.entry) before.0 turn.0 }
     {
-        let run = self.pairs_of(before);
-        let at = self.pair_from(run.start, run.end, turn);
+        let run = pairs_of(self.book, before);
+        let at = pair_from(self.book, run.start, run.end, turn);
         self.between_at(at, run.end, before, turn)
     }
 }

@@ -4,6 +4,7 @@ ghost use Rattle.walk.specs.View.{view_in};
 ghost use Rattle.walk.specs.Walks.{seconds, total};
 ghost use Rattle.walk.specs.steps.Splits.{link_split, turn_split, together, split_in};
 
+use super::steps::link_wait;
 use super::{Between, Costed, NoCost, Split, Viewed};
 use book::{LinkNumber, TurnNumber};
 
@@ -14,7 +15,7 @@ impl Viewed<'_> {
     {
         Split {
             ride: self.book.link_ride(link) as u32,
-            wait: self.link_wait(link),
+            wait: link_wait(self.book, link),
             walk: 0,
             extra: 0,
         }

@@ -1,33 +1,33 @@
 // What a walk's first link costs, what a turn adds, and the step from a turn to the next.
 ghost use Rattle.std.specs.Prelude.{◌≡◌, ◌≤◌, ◌<◌, IfSome};
-ghost use Rattle.walk.specs.View.{view_in};
+ghost use Rattle.walk.specs.View.{view_of, view_in};
 ghost use Rattle.walk.specs.Walks.{link_wait, boards, turn_wait};
 ghost use Rattle.walk.specs.steps.Costs.{link_cost, turn_cost};
 ghost use Rattle.walk.specs.steps.Pairs.{may_step, step_to};
 
 use super::{Between, Viewed};
-use book::{BARRED, LinkNumber, TurnNumber};
+use book::{BARRED, CheckedBook, LinkNumber, TurnNumber};
+
+// Half the headway of its line, rounded up.
+pub fn link_wait(book: CheckedBook<'_>, link: LinkNumber) -> u32
+    requires { link.0 < book.counts.links }
+    ensures { result ≡ link_wait (view_of book.entry.bytes.now book.entry.counts) link.0 }
+{
+    let line = book.link_line(link);
+    let headway = book.line_headway(line);
+    (headway as u32 + 1) / 2
+}
+
+pub fn link_cost(book: CheckedBook<'_>, link: LinkNumber) -> u32
+    requires { link.0 < book.counts.links }
+    ensures value { result ≡ link_cost (view_of book.entry.bytes.now book.entry.counts) link.0 }
+    ensures limited { result ≤ 39600 }
+{
+    let ride = book.link_ride(link);
+    ride as u32 + link_wait(book, link)
+}
 
 impl Viewed<'_> {
-    // Half the headway of its line, rounded up.
-    pub fn link_wait(self, link: LinkNumber) -> u32
-        requires { link.0 < self.book.counts.links }
-        ensures { result ≡ link_wait (view_in self.entry) link.0 }
-    {
-        let line = self.book.link_line(link);
-        let headway = self.book.line_headway(line);
-        (headway as u32 + 1) / 2
-    }
-
-    pub fn link_cost(self, link: LinkNumber) -> u32
-        requires { link.0 < self.book.counts.links }
-        ensures value { result ≡ link_cost (view_in self.entry) link.0 }
-        ensures limited { result ≤ 39600 }
-    {
-        let ride = self.book.link_ride(link);
-        ride as u32 + self.link_wait(link)
-    }
-
     // Document 02, request 1: who walks, or changes lines, waits again.
     fn turn_boards(self, turn: TurnNumber) -> bool
         requires { turn.0 < self.book.counts.turns }
@@ -48,7 +48,7 @@ impl Viewed<'_> {
         if !self.turn_boards(turn) {
             return 0;
         }
-        self.link_wait(self.turn_second(turn))
+        link_wait(self.book, self.turn_second(turn))
     }
 
     pub fn turn_cost(self, turn: TurnNumber) -> u32

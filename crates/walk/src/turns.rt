@@ -2,38 +2,35 @@
 ghost use Rattle.std.specs.Prelude.{◌≡◌, ◌≤◌, ◌+◌};
 ghost use Rattle.book.specs.Tables.{turn_table};
 ghost use Rattle.book.specs.Runs.{run_from};
-ghost use Rattle.walk.specs.View.{view_in};
+ghost use Rattle.walk.specs.View.{view_of};
 ghost use Rattle.walk.specs.steps.Onward.{turn_found};
 
-use super::Viewed;
-use book::{LinkNumber, TurnNumber};
+use book::{CheckedBook, LinkNumber, TurnNumber};
 use std::ops::Range;
 
-impl Viewed<'_> {
-    // The turns whose first link is this one.
-    pub fn followers(self, link: LinkNumber) -> Range<u16>
-        ensures start { result.start ≡ run_from (turn_table self.entry.book.bytes.now self.entry.book.counts) self.entry.book.counts.turns link.0 }
-        ensures end { result.end ≡ run_from (turn_table self.entry.book.bytes.now self.entry.book.counts) self.entry.book.counts.turns (link.0 + 1) }
-        ensures within { (result.start ≤ result.end) × (result.end ≤ self.entry.book.counts.turns) }
-    {
-        let number = link.0 as usize;
-        let start = self.book.turns_from(number) as u16;
-        let end = self.book.turns_from(number + 1) as u16;
-        start..end
-    }
+// The turns whose first link is this one.
+pub fn followers(book: CheckedBook<'_>, link: LinkNumber) -> Range<u16>
+    ensures start { result.start ≡ run_from (turn_table book.entry.bytes.now book.entry.counts) book.entry.counts.turns link.0 }
+    ensures end { result.end ≡ run_from (turn_table book.entry.bytes.now book.entry.counts) book.entry.counts.turns (link.0 + 1) }
+    ensures within { (result.start ≤ result.end) × (result.end ≤ book.entry.counts.turns) }
+{
+    let number = link.0 as usize;
+    let start = book.turns_from(number) as u16;
+    let end = book.turns_from(number + 1) as u16;
+    start..end
+}
 
-    // The turn from one link to the other, if there is one.
-    pub fn turn_of(self, first: LinkNumber, second: LinkNumber) -> Option<TurnNumber>
-        ensures { result ≡ turn_found (view_in self.entry) first.0 second.0 }
-    {
-        let run = self.followers(first);
-        let start = run.start;
-        let end = run.end;
-        for turn in start..end {
-            if self.turn_second(TurnNumber(turn)).0 == second.0 {
-                return Some(TurnNumber(turn));
-            }
+// The turn from one link to the other, if there is one.
+pub fn turn_of(book: CheckedBook<'_>, first: LinkNumber, second: LinkNumber) -> Option<TurnNumber>
+    ensures { result ≡ turn_found (view_of book.entry.bytes.now book.entry.counts) first.0 second.0 }
+{
+    let run = followers(book, first);
+    let start = run.start;
+    let end = run.end;
+    for turn in start..end {
+        if book.turn_second(TurnNumber(turn)).0 == second.0 {
+            return Some(TurnNumber(turn));
         }
-        None
     }
+    None
 }

@@ -3,7 +3,7 @@ use Rattle.std.proofs.Common.{arith, sym, ◌∙◌}
 use borrow.Author.Tests.{lt-ltb, le-ltb}
 use Rattle.walk.specs.steps.Pairs.{pair_from}
 use Rattle.book.proofs.Passing.{pass, stop, done}
-use Rattle.walk.proofs.Viewed.pair_from.Goals as goal
+use Rattle.walk.proofs.pairs.pair_from.Goals as goal
 
 pub loop-pair-preserved : goal.loop-pair-preserved
 loop-pair-preserved c = pass _ _ _ _ c.loop-pair.invariant c.loop-pair-test.true (lt-ltb _ _ (rw c.pair_second-second.ensures at c.if-turn-second.false))

@@ -7,14 +7,13 @@ use native.Mathlib.Omega.{arith}
 use lib.ListN.{length, take, drop, length-drop, drop_of_length-le}
 use lib.Seq.{take_all}
 use Rattle.book.specs.declared.Counts.{Counts}
-use Rattle.book.specs.declared.Checked.TheVariants.{Good}
+use Rattle.std.specs.Prelude.{Ok, Some}
 use Rattle.book.specs.Check.{check_of}
 use Rattle.walk.specs.View.{view_of}
 use Rattle.walk.specs.Labels.{Route}
 use Rattle.search.proofs.RouteRoom.{room_serves, links_exist}
 use Rattle.fare.specs.declared.Terms.{Terms}
 use Rattle.fare.proofs.GoodFares.{rest_whole}
-use Rattle.sheet.specs.declared.Sheeted.TheVariants.{Line}
 use Rattle.sheet.specs.Sheet.{route_fields, Planned, done as planned}
 use Rattle.sheet.specs.FareSheet.{FarePlanned, refused, bad_fares, done, FareSays, longest_text, FareSheet, printed}
 use Rattle.sheet.specs.steps.Faring.{RouteToFare, FareTold, bad_fares as told-bad, done as told-fare, LinesPut, BookEnd}
@@ -23,7 +22,7 @@ use Rattle.sheet.proofs.TestLaws.{tests_passed}
 use Rattle.sheet.proofs.Longest.{longest_plan}
 use Rattle.sheet.proofs.Plans.{Led, led_fields, led_planned}
 
-module _ (book : List ℕ) (r s : ℕ) (after : List ℕ) (cost count : ℕ) (led : Led book r s after cost count) (counts : Counts) (checked : check_of book ≡ Good counts) where
+module _ (book : List ℕ) (r s : ℕ) (after : List ℕ) (cost count : ℕ) (led : Led book r s after cost count) (counts : Counts) (checked : check_of book ≡ Ok counts) where
   abbrev links : List ℕ
   links = take count after
 
@@ -72,8 +71,8 @@ module _ (input : List ℕ) (from bytes place : ℕ) (ends : BookEnd from bytes 
           drop_of_length-le input long ∙ sym (drop_of_length-le input l)
 
 -- the lines that stand in the text are the input's own
-pub text_said : {input text after : List ℕ} {end : ℕ} → longest_text ≤ length text → LinesPut (FareSays input) text after end → FareSheet input text (Line end) after
-text_said room put = printed room put.lines put.told (ap Line put.end_at) put.text_after
+pub text_said : {input text after : List ℕ} {end : ℕ} → longest_text ≤ length text → LinesPut (FareSays input) text after end → FareSheet input text (Some end) after
+text_said room put = printed room put.lines put.told (ap Some put.end_at) put.text_after
 
 -- the same plan under other names
 pub plan_moved : {book book-too : List ℕ} {r r-too s s-too : ℕ} {table table-too : List ℕ} {terms terms-too : Terms} (lines : List (List ℕ)) → book ≡ book-too → r ≡ r-too → s ≡ s-too → table ≡ table-too → terms ≡ terms-too

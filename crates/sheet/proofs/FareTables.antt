@@ -8,7 +8,7 @@ use lib.Dec.{eqb}
 use lib.ListN.{length}
 use borrow.Author.Tests.{eqb-true, eqb-false, eq-eqb}
 use Rattle.book.specs.declared.Counts.{Counts}
-use Rattle.book.specs.declared.Checked.TheVariants.{Good}
+use Rattle.std.specs.Prelude.{Ok}
 use Rattle.book.specs.Check.{check_of}
 use Rattle.book.proofs.Limits.{both}
 use Rattle.book.proofs.GoodBook.{good_book}
@@ -56,7 +56,7 @@ module _ (counts : Counts) (bytes : List ℕ) (terms : Terms) where
     whole_good table e = rw (eq-eqb (length bytes % entry_bytes) 0 (omega arith), e, all_entries)
 
   -- no good table has more bytes
-  pub long_bytes : (book : List ℕ) → check_of book ≡ Good counts → most_table < length bytes → bytes_good counts bytes terms ≡ false
+  pub long_bytes : (book : List ℕ) → check_of book ≡ Ok counts → most_table < length bytes → bytes_good counts bytes terms ≡ false
   long_bytes book checked long =
       let few = (good_book book counts checked).limited in
       other_bytes (λ e. omega (arith, few.links, few.lines))

@@ -8,8 +8,8 @@ use lib.Dec.{ltb}
 use lib.ListN.{length, length-append}
 use borrow.Author.Tests.{ltb-true}
 use Rattle.book.specs.declared.Counts.{Counts}
-use Rattle.book.specs.declared.Checked.TheVariants.{Good}
-use Rattle.book.specs.Check.{check_of}
+use Rattle.std.specs.Prelude.{Ok}
+use Rattle.book.specs.Check.{number_of, place_of, check_of}
 use Rattle.book.proofs.Limits.{both}
 use Rattle.book.proofs.GoodBook.{good_book}
 use Rattle.walk.specs.declared.Split.{Split}
@@ -48,7 +48,7 @@ split_below split h =
       further_below 8 split.extra (omega arith),
     )
 
-module _ (book : List ℕ) (r s : ℕ) (counts : Counts) (checked : check_of book ≡ Good counts) (links : List ℕ) (route : Route (view_of book counts) r s links) where
+module _ (book : List ℕ) (r s : ℕ) (counts : Counts) (checked : check_of book ≡ Ok counts) (links : List ℕ) (route : Route (view_of book counts) r s links) where
   links_room : length (further links) ≤ 5 * length links
   links_room =
       let few = (good_book book counts checked).limited.links in
@@ -72,7 +72,7 @@ refusal_line number place n p = omega (arith, length_two number place, length_be
 pub longest_plan : (book : List ℕ) (r s : ℕ) (fields : List ℕ) → Planned book r s fields → length (line fields) ≤ longest_line
 longest_plan book r s fields (refused found t f) =
     let (n, p) = tests_limited book r s found t in
-    rw f (refusal_line found.number found.place (omega arith) p)
+    rw f (refusal_line (number_of found) (place_of found) (omega arith) p)
 longest_plan book r s fields (no_walk counts t none f) = rw f (refusal_line 14 0 (omega arith) (omega arith))
 longest_plan book r s fields (done counts t links route f) = rw f (route_line book r s counts (tests_passed book r s counts t) links route)
 

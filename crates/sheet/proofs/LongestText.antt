@@ -7,7 +7,7 @@ use native.Mathlib.Omega.{arith}
 use lib.Dec.{ltb}
 use lib.ListN.{length, length-append}
 use Rattle.book.specs.declared.Counts.{Counts}
-use Rattle.book.specs.declared.Checked.TheVariants.{Good}
+use Rattle.std.specs.Prelude.{Ok}
 use Rattle.book.specs.Check.{check_of}
 use Rattle.walk.specs.View.{view_of}
 use Rattle.walk.specs.Walks.{all}
@@ -30,7 +30,7 @@ use Rattle.sheet.proofs.FareTables.{good_entries, read_good}
 use Rattle.sheet.proofs.FareText.{text_one, text_two}
 
 -- a fare has 14 digits at most
-fare_line : (book : List ℕ) (counts : Counts) (table : List ℕ) (terms : Terms) (links : List ℕ) → check_of book ≡ Good counts → fares_good counts table terms ≡ true → all (map (λ l. ltb l counts.links) links) ≡ true → length links ≤ route_room
+fare_line : (book : List ℕ) (counts : Counts) (table : List ℕ) (terms : Terms) (links : List ℕ) → check_of book ≡ Ok counts → fares_good counts table terms ≡ true → all (map (λ l. ltb l counts.links) links) ≡ true → length links ≤ route_room
     → length (line ((fare_of (fares_of (view_of book counts) table terms) links).0 ∷ [])) ≤ 15
 fare_line book counts table terms links checked good exist few =
     let most = fare_most counts.links (fares_of (view_of book counts) table terms) (limited_fares book counts table terms checked good) links exist in

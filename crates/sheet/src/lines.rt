@@ -1,21 +1,17 @@
 // The lines of a sheet: a refusal's number and place, or a route's cost, where its minutes go, and its links.
 ghost use Rattle.std.specs.Prelude.{◌≡◌, [], ◌∷◌, ◌+◌, ◌≤◌, length};
+ghost use Rattle.book.specs.Check.{number_of, place_of};
 ghost use Rattle.walk.specs.Walks.{figures_of};
 ghost use Rattle.sheet.specs.Line.{further, line};
 ghost use Rattle.sheet.specs.Sheet.{fields_of};
 ghost use Rattle.sheet.specs.steps.Storing.{Stored, LineFirst};
 
 use super::decimals::{put_byte, put_decimal};
+use book::Refusal;
 use walk::Split;
 
 // What ends every line.
 const NEWLINE: u8 = b'\n';
-
-fn widened(n: u16) -> usize
-    ensures { result ≡ n }
-{
-    n as usize
-}
 
 // A field that is not the first, after its blank.
 fn put_field(text: &mut [u8], at: usize, n: usize) -> usize
@@ -31,20 +27,18 @@ fn put_links(text: &mut [u8], at: usize, links: &[u16]) -> usize
     ensures { Stored text.old at (further links.now) text.new result }
 {
     let mut next = at;
-    let mut passed = 0;
-    while passed < links.len() {
-        next = put_field(text, next, widened(links[passed]));
-        passed += 1;
+    for link in links {
+        next = put_field(text, next, usize::from(*link));
     }
     next
 }
 
-pub fn put_refusal(text: &mut [u8], number: u8, place: usize) -> usize
-    requires { length (line (number ∷ place ∷ [])) ≤ length text.old }
-    ensures { LineFirst (number ∷ place ∷ []) text.old text.new result }
+pub fn put_refusal(text: &mut [u8], found: Refusal) -> usize
+    requires { length (line (number_of found ∷ place_of found ∷ [])) ≤ length text.old }
+    ensures { LineFirst (number_of found ∷ place_of found ∷ []) text.old text.new result }
 {
-    let at = put_decimal(text, 0, number as usize);
-    let at = put_field(text, at, place);
+    let at = put_decimal(text, 0, usize::from(found.number()));
+    let at = put_field(text, at, found.place());
     put_byte(text, at, NEWLINE)
 }
 

@@ -21,7 +21,7 @@ use Rattle.search.proofs.RouteRoom.{room_serves, links_exist}
 use Rattle.sheet.specs.Line.{decimal, further, line}
 use Rattle.sheet.specs.Sheet.{origin_of, destination_of, book_of, route_fields, Planned, refused, no_walk, done, Says, short, asked, longest_line}
 use Rattle.sheet.proofs.DigitLaws.{length_below}
-use Rattle.sheet.proofs.LineLaws.{further_one, length_two, length_four, length_many}
+use Rattle.sheet.proofs.LineLaws.{further_one, length_two, length_four, length_route}
 use Rattle.sheet.proofs.TestLaws.{tests_limited, tests_passed}
 
 -- a field that is not the first has a blank and its digits
@@ -64,7 +64,7 @@ module _ (book : List ℕ) (r s : ℕ) (counts : Counts) (checked : check_of boo
       let figure = further_below 8 (cost_of (view_of book counts) links) (omega arith) in
       let count = further_below 3 (length links) (omega arith) in
       let four = split_below split (omega (arith, adds_up (view_of book counts) links)) in
-      omega (arith, length_many 0 (cost_of (view_of book counts) links) (figures_of split) (length links) links, links_room)
+      omega (arith, length_route 0 (cost_of (view_of book counts) links) split.ride split.wait split.walk split.extra (length links) links, links_room)
 
 pub refusal_line : (number place : ℕ) → number ≤ 17 → place ≤ 4096 → length (line (number ∷ place ∷ [])) ≤ longest_line
 refusal_line number place n p = omega (arith, length_two number place, length_below 1 number (omega arith), further_below 3 place (omega arith))

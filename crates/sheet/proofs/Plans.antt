@@ -17,10 +17,14 @@ use Rattle.walk.proofs.theory.Laws.{clash}
 use Rattle.search.specs.Tests.{both_nodes}
 use Rattle.search.proofs.RouteRoom.{node_leaves, same_figures}
 use Rattle.search.proofs.RouteAccounted.{route_costed}
-use Rattle.sheet.specs.Sheet.{before_book, origin_of, destination_of, book_of, route_fields, fields_of, Planned, refused, no_walk, done, asked, longest_line, Sheet, printed}
+use Rattle.sheet.specs.Line.{line}
+use Rattle.sheet.specs.Sheet.{route_fields, fields_of, Planned, refused, no_walk, done, Says, longest_line, Sheet, printed}
 use Rattle.sheet.specs.steps.Planning.{Found, refused as found_refused, no_walk as found_none, done as found_route}
 use Rattle.sheet.specs.steps.Routes.{asked_fields}
-use Rattle.sheet.specs.steps.Asking.{LinePut}
+use Rattle.sheet.specs.declared.Page.{Page}
+use Rattle.sheet.specs.steps.Storing.{Put}
+use Rattle.sheet.proofs.StoreLaws.{whole}
+use Rattle.sheet.proofs.Longest.{longest_line_lem}
 use Rattle.book.specs.declared.Refusal.TheVariants.{NoWalk}
 use Rattle.search.specs.Route.{routed, RouteAnswer}
 
@@ -75,10 +79,8 @@ module _ {book : List ℕ} {r s : ℕ} {after : List ℕ} {cost count : ℕ} (le
   pub led_planned : Planned book r s (asked_fields book r cost (take count after))
   led_planned = done led.counts led.passed (take count after) led.route led_fields
 
--- the line that stands in the text is the input's own
-pub line_said : (input text after : List ℕ) (end : ℕ) (book : List ℕ) (r s : ℕ) → longest_line ≤ length text → before_book ≤ length input → book ≡ book_of input → r ≡ origin_of input → s ≡ destination_of input → LinePut book r s text after end
-    → Sheet input text (Some end) after
-line_said input text after end book r s room long e f g put =
-    printed room put.fields (asked long (subst (λ (x : ℕ). Planned (book_of input) (origin_of input) x put.fields) g (subst (λ (x : ℕ). Planned (book_of input) x s put.fields) f (subst (λ (x : List ℕ). Planned x r s put.fields) e put.planned))))
-    (ap Some put.end_at)
-    put.text_after
+-- a line that is put from the start, and that the input says, is the sheet of the input
+pub line_said : (input text left : List ℕ) {fields : List ℕ} {before after : Page} → Put before (line fields) after → before.at ≡ 0 → before.text.now ≡ text → left ≡ after.text.now → longest_line ≤ length text → Says input fields → Sheet input text (Some after.at) left
+line_said input text left {fields} put start lent kept room says =
+    let (stands, end) = whole put start (rw lent (omega (arith, longest_line_lem input fields says))) in
+    printed room fields says (ap Some end) (kept ∙ rw lent at stands)

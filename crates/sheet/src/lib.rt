@@ -15,6 +15,13 @@ mod ways;
 pub use asking::sheet;
 pub use faring::fare_sheet;
 
+// A text that is lent to be printed on, and the place of the next byte.
+#[derive(Drop)]
+struct Page<'a> {
+    text: &'a mut [u8],
+    at: usize,
+}
+
 // The way that an input asks for.
 #[derive(Clone, Copy)]
 struct Way {

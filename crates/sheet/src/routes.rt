@@ -1,10 +1,9 @@
 // The line of a route just found: where its minutes go is asked of the cost of a given walk (document 02, request 5).
-ghost use Rattle.std.specs.Prelude.{◌≤◌, length};
 ghost use Rattle.sheet.specs.Line.{line};
 ghost use Rattle.sheet.specs.steps.Routes.{asked_fields};
-ghost use Rattle.sheet.specs.steps.Storing.{LineFirst};
+ghost use Rattle.sheet.specs.steps.Storing.{Room, Put};
 
-use super::lines::put_route;
+use super::Page;
 use book::{CheckedBook, NodeNumber};
 use search::{cost_of, split_in};
 
@@ -16,10 +15,10 @@ pub struct RouteFound<'a> {
     pub links: &'a [u16],
 }
 
-pub fn print_route(book: CheckedBook<'_>, route: RouteFound<'_>, text: &mut [u8]) -> usize
-    requires { length (line (asked_fields book.bytes.now route.origin.0 route.cost route.links.now)) ≤ length text.old }
-    ensures { LineFirst (asked_fields book.entry.bytes.now route.entry.origin.0 route.entry.cost route.entry.links.now) text.old text.new result }
+pub fn print_route(book: CheckedBook<'_>, route: RouteFound<'_>, page: &mut Page<'_>)
+    requires { Room page.old (line (asked_fields book.bytes.now route.origin.0 route.cost route.links.now)) }
+    ensures { Put page.old (line (asked_fields book.entry.bytes.now route.entry.origin.0 route.entry.cost route.entry.links.now)) page.new }
 {
     let split = split_in(cost_of(book.bytes, route.origin, route.links));
-    put_route(text, route.cost, split, route.links)
+    page.put_route(route.cost, split, route.links);
 }

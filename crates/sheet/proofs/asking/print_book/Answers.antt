@@ -8,4 +8,4 @@ pub put_refusal-requires : goal.put_refusal-requires
 put_refusal-requires c = omega (arith, longest_plan _ c.args.way.origin.0 c.args.way.destination.0 _ (book_refused _ _ _ _ (sym c.check.ensures ∙ c.in-Err.is)), c.requires)
 
 pub returns-in-Err : goal.returns-in-Err
-returns-in-Err c = record { fields = _; planned = book_refused _ _ _ _ (sym c.check.ensures ∙ c.in-Err.is); text_after = c.put_refusal.ensures.0; end_at = c.put_refusal.ensures.1 }
+returns-in-Err c = record { fields = _; planned = book_refused _ _ _ _ (sym c.check.ensures ∙ c.in-Err.is); put = c.put_refusal.ensures }

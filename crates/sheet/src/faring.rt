@@ -4,12 +4,11 @@ ghost use Rattle.walk.specs.View.{up_to};
 ghost use Rattle.sheet.specs.FareSheet.{long_at, before_fare_book, terms_of, entry_bytes, FarePlanned, longest_text, FareSheet};
 ghost use Rattle.sheet.specs.steps.Faring.{FaresRead, read_into, RouteToFare, FareTold, LinesPut, BookEnd};
 
-use super::Way;
 use super::figures::{BEFORE_FARE_BOOK, ENTRY_BYTES, LONGEST_TEXT, MOST_ENTRIES};
-use super::lines::{put_number, put_refusal};
 use super::planning::plan;
 use super::routes::{RouteFound, print_route};
 use super::ways::way_of;
+use super::{Page, Way};
 use book::{CheckedBook, Counts, Refusal};
 use fare::{Fares, Metres, Terms, Won, fare_of, fares_good};
 use search::{ROUTE_ROOM, check, number_at};
@@ -71,23 +70,26 @@ fn put_fares(
     route: RouteFound<'_>,
     given: FareBytes<'_>,
     table: &mut [u32],
-    text: &mut [u8],
-) -> usize
-    requires { RouteToFare book.bytes.now book.counts route.origin.0 route.cost route.links.now × ((length table.old ≡ book.counts.links + book.counts.lines) × (longest_text ≤ length text.old)) }
-    ensures lines_put { LinesPut (FareTold book.entry.bytes.now book.entry.counts given.entry.table.now given.entry.terms route.entry.origin.0 route.entry.cost route.entry.links.now) text.old text.new result }
+    page: &mut Page<'_>,
+)
+    requires route { RouteToFare book.bytes.now book.counts route.origin.0 route.cost route.links.now }
+    requires sized { length table.old ≡ book.counts.links + book.counts.lines }
+    requires room { page.old.at + longest_text ≤ length page.old.text.now }
+    ensures lines_put { LinesPut (FareTold book.entry.bytes.now book.entry.counts given.entry.table.now given.entry.terms route.entry.origin.0 route.entry.cost route.entry.links.now) page.old page.new }
     ensures table_after { table.new ≡ read_into given.entry.table.now table.old }
 {
     if !read_fares(book.counts, given, table) {
-        return put_refusal(text, Refusal::Fares);
+        page.put_refusal(Refusal::Fares);
+        return;
     }
-    let at = print_route(book, route, text);
+    print_route(book, route, page);
     let fares = Fares {
         table,
         terms: given.terms,
     };
     let fare = fare_of(book, fares, route.links);
     // std has no conversion of 64 bits to a usize that cannot fail
-    put_number(text, at, fare.0 as usize)
+    page.put_number(fare.0 as usize);
 }
 
 // The fare sheet's own table, of one entry a link and one a line.
@@ -95,48 +97,44 @@ fn print_fares(
     book: CheckedBook<'_>,
     route: RouteFound<'_>,
     given: FareBytes<'_>,
-    text: &mut [u8],
-) -> usize
-    requires { RouteToFare book.bytes.now book.counts route.origin.0 route.cost route.links.now × (longest_text ≤ length text.old) }
-    ensures { LinesPut (FareTold book.entry.bytes.now book.entry.counts given.entry.table.now given.entry.terms route.entry.origin.0 route.entry.cost route.entry.links.now) text.old text.new result }
+    page: &mut Page<'_>,
+)
+    requires route { RouteToFare book.bytes.now book.counts route.origin.0 route.cost route.links.now }
+    requires room { page.old.at + longest_text ≤ length page.old.text.now }
+    ensures { LinesPut (FareTold book.entry.bytes.now book.entry.counts given.entry.table.now given.entry.terms route.entry.origin.0 route.entry.cost route.entry.links.now) page.old page.new }
 {
     let count = book.counts.links + book.counts.lines;
     let mut table = [0u32; MOST_ENTRIES];
-    put_fares(book, route, given, &mut table[..count], text)
+    put_fares(book, route, given, &mut table[..count], page);
 }
 
 // The plan's line and its fare's, from the fare sheet's own route buffer.
-fn print_fare_plan(
-    book: CheckedBook<'_>,
-    way: Way,
-    given: FareBytes<'_>,
-    text: &mut [u8],
-) -> usize
-    requires { longest_text ≤ length text.old }
-    ensures { LinesPut (FarePlanned book.entry.bytes.now way.origin.0 way.destination.0 given.entry.table.now given.entry.terms) text.old text.new result }
+fn print_fare_plan(book: CheckedBook<'_>, way: Way, given: FareBytes<'_>, page: &mut Page<'_>)
+    requires { page.old.at + longest_text ≤ length page.old.text.now }
+    ensures { LinesPut (FarePlanned book.entry.bytes.now way.origin.0 way.destination.0 given.entry.table.now given.entry.terms) page.old page.new }
 {
     let mut links = [0u16; ROUTE_ROOM];
     match plan(book, way, &mut links) {
-        Err(found) => put_refusal(text, found),
+        Err(found) => page.put_refusal(found),
         Ok(routed) => {
             let route = RouteFound {
                 origin: way.origin,
                 cost: routed.cost,
                 links: &links[..usize::from(routed.links)],
             };
-            print_fares(book, route, given, text)
+            print_fares(book, route, given, page);
         }
     }
 }
 
 // The book's own number comes before 10, and 17 after 14.
-fn print_fare_book(book: &[u8], way: Way, given: FareBytes<'_>, text: &mut [u8]) -> usize
-    requires { longest_text ≤ length text.old }
-    ensures { LinesPut (FarePlanned book.now way.origin.0 way.destination.0 given.entry.table.now given.entry.terms) text.old text.new result }
+fn print_fare_book(book: &[u8], way: Way, given: FareBytes<'_>, page: &mut Page<'_>)
+    requires { page.old.at + longest_text ≤ length page.old.text.now }
+    ensures { LinesPut (FarePlanned book.now way.origin.0 way.destination.0 given.entry.table.now given.entry.terms) page.old page.new }
 {
     match check(book) {
-        Err(found) => put_refusal(text, found),
-        Ok(counts) => print_fare_plan(CheckedBook::carry(book, counts), way, given, text),
+        Err(found) => page.put_refusal(found),
+        Ok(counts) => print_fare_plan(CheckedBook::carry(book, counts), way, given, page),
     }
 }
 
@@ -158,20 +156,22 @@ pub fn fare_sheet(input: &[u8], text: &mut [u8]) -> Option<usize>
     if text.len() < LONGEST_TEXT {
         return None;
     }
+    let mut page = Page { text, at: 0 };
     let end = input.len();
     if end < BEFORE_FARE_BOOK {
-        return Some(put_refusal(text, Refusal::TooShort));
+        page.put_refusal(Refusal::TooShort);
+        return Some(page.at);
     }
-    let way = way_of(input);
     let middle = book_end(BEFORE_FARE_BOOK, long_at(input, 16) as usize, end);
     let given = FareBytes {
         table: &input[middle..],
         terms: terms_of(input),
     };
-    Some(print_fare_book(
+    print_fare_book(
         &input[BEFORE_FARE_BOOK..middle],
-        way,
+        way_of(input),
         given,
-        text,
-    ))
+        &mut page,
+    );
+    Some(page.at)
 }

@@ -93,6 +93,7 @@ fn put_fares(
 }
 
 // The fare sheet's own table, of one entry a link and one a line.
+#[tactic(auto, using(crate::proofs::FareTables::table_room))]
 fn print_fares(
     book: CheckedBook<'_>,
     route: RouteFound<'_>,

@@ -1,12 +1,12 @@
 -- The dearer of two amounts is their maximum.
 use Prim.Native.Nat.{ℕ, ◌≤◌, ◌<◌}
-use mathlib.Core.Path.{◌≡◌, refl, sym, ap, ◌∙◌}
+use mathlib.Core.Path.{◌≡◌, ap}
 use mathlib.Core.Bool.{Bool}
 use native.Mathlib.Omega.{arith}
 use native.Mathlib.Decide.{dec_lt}
 use borrow.Author.Tests.{lt-ltb, le-ltb}
 use Rattle.fare.specs.declared.Won.{Won}
-use Rattle.fare.specs.Amounts.{or_else, dearer, in_won}
+use Rattle.fare.specs.Amounts.{or_else, dearer}
 
 pub other_dearer : (one other : Won) → one.0 < other.0 → dearer one other ≡ other
 other_dearer one other h = ap (λ (test : Bool). or_else test other one) (lt-ltb one.0 other.0 h)

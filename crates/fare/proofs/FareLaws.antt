@@ -1,14 +1,12 @@
 -- Good fares bound the metres, the basic fare, the premiums and so the fare.
-use Prim.Native.Nat.{ℕ, suc, ◌+◌, ◌*◌, ◌≤◌, ◌<◌}
+use Prim.Native.Nat.{ℕ, ◌+◌, ◌*◌, ◌≤◌, ◌<◌}
 use mathlib.Core.Path.{◌≡◌, refl, ap}
 use mathlib.Core.List.{List, [], ◌∷◌, map}
 use mathlib.Core.Bool.{true}
 use native.Mathlib.Omega.{arith}
-use native.Mathlib.Numerals.{add-one}
 use native.Mathlib.Nat.{mul-le-mul}
 use lib.Dec.{ltb}
-use lib.ListN.{length, get_or, drop, drop_of_length-le}
-use lib.Seq.{drop-cons}
+use lib.ListN.{length}
 use borrow.Author.Tests.{ltb-true}
 use Rattle.book.specs.declared.Counts.{Counts}
 use Rattle.std.specs.Prelude.{Ok}
@@ -20,7 +18,7 @@ use Rattle.walk.specs.Walks.{all}
 use Rattle.fare.specs.declared.Terms.{Terms}
 use Rattle.fare.specs.declared.Won.{Won}
 use Rattle.fare.specs.declared.Metres.{Metres}
-use Rattle.fare.specs.Amounts.{largest_held, beyond, dearer, plus, in_won}
+use Rattle.fare.specs.Amounts.{largest_held, beyond, plus, in_won}
 use Rattle.fare.specs.Fares.{Fares, most_metres, most_won, fares_of, fares_good}
 use Rattle.fare.specs.Fare.{ridden, dearest, premiums, fare_of}
 use Rattle.fare.proofs.Dearer.{dearer_most}

@@ -31,10 +31,7 @@ impl Won {
     pub fn dearer(self, other: Won) -> Won
         ensures { result ≡ dearer self other }
     {
-        if self < other {
-            return other;
-        }
-        self
+        self.max(other)
     }
 
     pub fn plus(self, other: Won) -> Won

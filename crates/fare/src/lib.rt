@@ -14,7 +14,7 @@ pub use tables::fares_good;
 #[derive(Clone, Copy, PartialEq, Eq, PartialOrd, Ord)]
 pub struct Won(pub u64);
 
-#[derive(Clone, Copy, PartialEq, Eq, PartialOrd, Ord)]
+#[derive(Clone, Copy)]
 pub struct Metres(pub u64);
 
 // What stands beside a fare table: the basic distance, the step beyond it, and the premium for a step.

@@ -4,25 +4,24 @@ use mathlib.Core.Path.{◌≡◌, sym, ◌∙◌, subst}
 use mathlib.Core.List.{List}
 use native.Mathlib.Omega.{arith}
 use Rattle.book.specs.declared.Counts.{Counts}
-use Rattle.book.specs.declared.Checked.TheVariants.{Good}
+use Rattle.std.specs.Prelude.{Ok, Option}
 use Rattle.walk.specs.View.{view_of, walks_of}
 use Rattle.walk.specs.Labels.{Route}
 use Rattle.walk.proofs.theory.Laws.{clash}
 use Rattle.walk.proofs.GoodView.{good_view}
 use Rattle.walk.proofs.LabelLaws.{route_one}
 use Rattle.search.specs.Tests.{both_nodes}
-use Rattle.sheet.specs.declared.Sheeted.{Sheeted}
 use Rattle.sheet.specs.Sheet.{origin_of, destination_of, book_of, Planned, refused, no_walk, done, Says, short, asked, Sheet, no_room, printed}
 use Rattle.sheet.proofs.TestLaws.{tests_passed}
 
 module _ (book : List ℕ) (r s : ℕ) where
-  pub counts_one : (counts other : Counts) → both_nodes book r s ≡ Good counts → both_nodes book r s ≡ Good other → other ≡ counts
+  pub counts_one : (counts other : Counts) → both_nodes book r s ≡ Ok counts → both_nodes book r s ≡ Ok other → other ≡ counts
   counts_one counts other a b = cc
 
   abbrev pub RouteIn : List ℕ → Counts → Type 0
   RouteIn links counts = Route (view_of book counts) r s links
 
-  pub one_route : (counts : Counts) → both_nodes book r s ≡ Good counts → (links other : List ℕ) → RouteIn links counts → RouteIn other counts → links ≡ other
+  pub one_route : (counts : Counts) → both_nodes book r s ≡ Ok counts → (links other : List ℕ) → RouteIn links counts → RouteIn other counts → links ≡ other
   one_route counts h links other a b = route_one (view_of book counts) (good_view book counts (walks_of book counts) (tests_passed book r s counts h)) r s links other a b
 
   -- one way through one book has one line
@@ -48,7 +47,7 @@ says_one input fields other (asked l plan) (short m g) = absurd (omega arith)
 says_one input fields other (asked l plan) (asked m plan') = plan_one (book_of input) (origin_of input) (destination_of input) fields other plan plan'
 
 -- two outcomes that the contract of a sheet allows for one input and text are equal
-pub sheet_determined : (input text : List ℕ) (one other : Sheeted) (after after-other : List ℕ) → Sheet input text one after → Sheet input text other after-other → (one ≡ other) × (after ≡ after-other)
+pub sheet_determined : (input text : List ℕ) (one other : Option ℕ) (after after-other : List ℕ) → Sheet input text one after → Sheet input text other after-other → (one ≡ other) × (after ≡ after-other)
 sheet_determined input text one other after after' (no_room h a b) (no_room h' a' b') = (a ∙ sym a', b ∙ sym b')
 sheet_determined input text one other after after' (no_room h a b) (printed h' fields says a' b') = absurd (omega arith)
 sheet_determined input text one other after after' (printed h fields says a b) (no_room h' a' b') = absurd (omega arith)

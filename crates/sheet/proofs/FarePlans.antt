@@ -7,23 +7,25 @@ use native.Mathlib.Omega.{arith}
 use lib.ListN.{length, take, drop, length-drop, drop_of_length-le}
 use lib.Seq.{take_all}
 use Rattle.book.specs.declared.Counts.{Counts}
-use Rattle.book.specs.declared.Checked.TheVariants.{Good}
+use Rattle.std.specs.Prelude.{Ok, Some}
 use Rattle.book.specs.Check.{check_of}
 use Rattle.walk.specs.View.{view_of}
 use Rattle.walk.specs.Labels.{Route}
 use Rattle.search.proofs.RouteRoom.{room_serves, links_exist}
 use Rattle.fare.specs.declared.Terms.{Terms}
-use Rattle.fare.proofs.GoodFares.{rest_whole}
-use Rattle.sheet.specs.declared.Sheeted.TheVariants.{Line}
+use Rattle.std.proofs.lemmas.List.{take_rest}
+use Rattle.sheet.specs.declared.Page.{Page}
 use Rattle.sheet.specs.Sheet.{route_fields, Planned, done as planned}
 use Rattle.sheet.specs.FareSheet.{FarePlanned, refused, bad_fares, done, FareSays, longest_text, FareSheet, printed}
 use Rattle.sheet.specs.steps.Faring.{RouteToFare, FareTold, bad_fares as told-bad, done as told-fare, LinesPut, BookEnd}
 use Rattle.sheet.specs.steps.Routes.{asked_fields}
 use Rattle.sheet.proofs.TestLaws.{tests_passed}
+use Rattle.sheet.proofs.StoreLaws.{whole}
 use Rattle.sheet.proofs.Longest.{longest_plan}
+use Rattle.sheet.proofs.LongestText.{longest_text_lem}
 use Rattle.sheet.proofs.Plans.{Led, led_fields, led_planned}
 
-module _ (book : List ℕ) (r s : ℕ) (after : List ℕ) (cost count : ℕ) (led : Led book r s after cost count) (counts : Counts) (checked : check_of book ≡ Good counts) where
+module _ (book : List ℕ) (r s : ℕ) (after : List ℕ) (cost count : ℕ) (led : Led book r s after cost count) (counts : Counts) (checked : check_of book ≡ Ok counts) where
   abbrev links : List ℕ
   links = take count after
 
@@ -39,7 +41,6 @@ module _ (book : List ℕ) (r s : ℕ) (after : List ℕ) (cost count : ℕ) (le
   led_to_fare =
       let few = (room_serves book r s counts checked links route).0 in
       record {
-        checked = checked;
         given = record { few = omega arith; exist = links_exist (view_of book counts) r s links route.walk };
         few = few;
         fits = longest_plan book r s _ (led_planned led);
@@ -63,7 +64,7 @@ module _ (input : List ℕ) (from bytes place : ℕ) (ends : BookEnd from bytes 
       by (inr (e, l)) = take_all (place - from) (drop from input) (omega (arith, length-drop from input)) ∙ sym (take_all bytes (drop from input) (omega (arith, length-drop from input)))
 
   pub table_part : take (length input - place) (drop place input) ≡ drop (from + bytes) input
-  table_part = rest_whole place input ∙ by ends.part
+  table_part = take_rest input place ∙ by ends.part
     where
       by : (place ≡ from + bytes) ⊎ ((place ≡ length input) × (length input ≤ from + bytes)) → drop place input ≡ drop (from + bytes) input
       by (inl e) = ap (λ (n : ℕ). drop n input) e
@@ -71,9 +72,11 @@ module _ (input : List ℕ) (from bytes place : ℕ) (ends : BookEnd from bytes 
           let long : length input ≤ place = omega arith in
           drop_of_length-le input long ∙ sym (drop_of_length-le input l)
 
--- the lines that stand in the text are the input's own
-pub text_said : {input text after : List ℕ} {end : ℕ} → longest_text ≤ length text → LinesPut (FareSays input) text after end → FareSheet input text (Line end) after
-text_said room put = printed room put.lines put.told (ap Line put.end_at) put.text_after
+-- lines that are put from the start, and that the input says, are the sheet of the input
+pub text_said : (input text left : List ℕ) {before after : Page} → LinesPut (FareSays input) before after → before.at ≡ 0 → before.text.now ≡ text → left ≡ after.text.now → longest_text ≤ length text → FareSheet input text (Some after.at) left
+text_said input text left lines start lent kept room =
+    let (stands, end) = whole lines.put start (rw lent (omega (arith, longest_text_lem input lines.lines lines.told))) in
+    printed room lines.lines lines.told (ap Some end) (kept ∙ rw lent at stands)
 
 -- the same plan under other names
 pub plan_moved : {book book-too : List ℕ} {r r-too s s-too : ℕ} {table table-too : List ℕ} {terms terms-too : Terms} (lines : List (List ℕ)) → book ≡ book-too → r ≡ r-too → s ≡ s-too → table ≡ table-too → terms ≡ terms-too

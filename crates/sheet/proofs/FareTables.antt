@@ -1,5 +1,5 @@
 -- The bytes of a fare table are good at one length only, that of one entry a link and one a line, so a table of another length need not be read.
-use Prim.Native.Nat.{ℕ, ◌+◌, ◌*◌, ◌/◌, ◌%◌, ◌<◌}
+use Prim.Native.Nat.{ℕ, ◌+◌, ◌*◌, ◌/◌, ◌%◌, ◌≤◌, ◌<◌}
 use mathlib.Core.Path.{◌≡◌, refl, sym, ap, ◌∙◌}
 use mathlib.Core.List.{List, [], ◌∷◌}
 use mathlib.Core.Bool.{Bool, true, false, ◌&&◌, cond}
@@ -8,7 +8,7 @@ use lib.Dec.{eqb}
 use lib.ListN.{length}
 use borrow.Author.Tests.{eqb-true, eqb-false, eq-eqb}
 use Rattle.book.specs.declared.Counts.{Counts}
-use Rattle.book.specs.declared.Checked.TheVariants.{Good}
+use Rattle.std.specs.Prelude.{Ok}
 use Rattle.book.specs.Check.{check_of}
 use Rattle.book.proofs.Limits.{both}
 use Rattle.book.proofs.GoodBook.{good_book}
@@ -56,10 +56,16 @@ module _ (counts : Counts) (bytes : List ℕ) (terms : Terms) where
     whole_good table e = rw (eq-eqb (length bytes % entry_bytes) 0 (omega arith), e, all_entries)
 
   -- no good table has more bytes
-  pub long_bytes : (book : List ℕ) → check_of book ≡ Good counts → most_table < length bytes → bytes_good counts bytes terms ≡ false
+  pub long_bytes : (book : List ℕ) → check_of book ≡ Ok counts → most_table < length bytes → bytes_good counts bytes terms ≡ false
   long_bytes book checked long =
       let few = (good_book book counts checked).limited in
       other_bytes (λ e. omega (arith, few.links, few.lines))
+
+-- a table of one entry a link and one a line of a good book
+pub table_room : (book : List ℕ) (counts : Counts) → check_of book ≡ Ok counts → counts.links + counts.lines ≤ 2304
+table_room book counts checked =
+    let few = (good_book book counts checked).limited in
+    omega (arith, few.links, few.lines)
 
 -- a table of one entry a link and one a line that was read and is good
 module _ {counts : Counts} {bytes : List ℕ} {terms : Terms} {table after : List ℕ} {answer : Bool} (sized : length table ≡ counts.links + counts.lines) (read : FaresRead counts bytes terms table answer after) (good : answer ≡ true) where

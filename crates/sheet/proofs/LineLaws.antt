@@ -7,7 +7,8 @@ use native.Mathlib.Numerals.{add-one}
 use lib.ListN.{length, get_or, take, drop, length-append, take-append-drop}
 use lib.Seq.{take-suc, take_all}
 use Rattle.sheet.specs.Line.{blank, newline, decimal, further, line}
-use Rattle.sheet.specs.steps.Storing.{Stored}
+use Rattle.sheet.specs.declared.Page.{Page}
+use Rattle.sheet.specs.steps.Storing.{Put}
 use Rattle.sheet.proofs.StoreLaws.{then}
 
 pub further_one : (n : ℕ) → further (n ∷ []) ≡ blank ∷ decimal n
@@ -35,16 +36,15 @@ module _ (links : List ℕ) (k : ℕ) (h : k < length links) where
       omega arith
 
 -- the fields of no links, of one link more, and of all
-pub none_stored : {text : List ℕ} {at : ℕ} → Stored text at (further []) text at
+pub none_put : (page : Page) → Put page (further []) page
 unfolding further
-none_stored {text} {at} = record { text_after = refl; place_after = omega arith }
+none_put page = record { text_after = refl; length_after = refl; place_after = omega arith; same = refl }
 
-pub one_stored : {text one two : List ℕ} {at middle next n : ℕ} (links : List ℕ) (k : ℕ) → k < length links → n ≡ get_or links k 0 → Stored text at (further (take k links)) one middle → Stored one middle (further (n ∷ [])) two next
-    → Stored text at (further (take (k + 1) links)) two next
-one_stored links k h e before stored = rw (further_taken links k h, ← e) (then before stored)
+pub one_put : {one two three : Page} (links : List ℕ) (k next n : ℕ) → next ≡ k + 1 → k < length links → n ≡ get_or links k 0 → Put one (further (take k links)) two → Put two (further (n ∷ [])) three → Put one (further (take next links)) three
+one_put links k next n more h e before put = rw (more, further_taken links k h, ← e) (then before put)
 
-pub all_stored : {text after : List ℕ} {at next : ℕ} (links : List ℕ) (k : ℕ) → length links ≤ k → Stored text at (further (take k links)) after next → Stored text at (further links) after next
-all_stored links k h stored = rw (take_all k links h) at stored
+pub all_put : {one two : Page} (links : List ℕ) (k : ℕ) → length links ≤ k → Put one (further (take k links)) two → Put one (further links) two
+all_put links k h put = rw (take_all k links h) at put
 
 pub line_one : (n : ℕ) → line (n ∷ []) ≡ decimal n ++ (newline ∷ [])
 unfolding line further
@@ -54,10 +54,11 @@ pub line_two : (first second : ℕ) → line (first ∷ second ∷ []) ≡ decim
 unfolding line
 line_two first second = refl
 
--- a first and a second field, some between, one more and the rest
-pub line_more : (first second : ℕ) (between : List ℕ) (third : ℕ) (rest : List ℕ) → line (first ∷ second ∷ (between ++ (third ∷ rest))) ≡ decimal first ++ further (second ∷ []) ++ further between ++ further (third ∷ []) ++ further rest ++ (newline ∷ [])
+-- a route's first and second field, its four figures, one field more and the rest
+line_route : (first second a b c d third : ℕ) (rest : List ℕ) → line (first ∷ second ∷ a ∷ b ∷ c ∷ d ∷ third ∷ rest) ≡ decimal first ++ further (second ∷ []) ++ further (a ∷ b ∷ c ∷ d ∷ []) ++ further (third ∷ []) ++ further rest ++ (newline ∷ [])
 unfolding line
-line_more first second between third rest =
+line_route first second a b c d third rest =
+    let between : List ℕ = a ∷ b ∷ c ∷ d ∷ [] in
     ap (λ (bytes : List ℕ). bytes ++ (newline ∷ []))
     (ap (λ (bytes : List ℕ). decimal first ++ bytes) (further_append (second ∷ between) (third ∷ rest))
     ∙ ap (λ (bytes : List ℕ). decimal first ++ (bytes ++ further (third ∷ rest))) (further_append (second ∷ []) between)
@@ -72,7 +73,28 @@ further_four a b c d =
     further_append (a ∷ b ∷ c ∷ []) (d ∷ [])
     ∙ ap (λ (bytes : List ℕ). bytes ++ further (d ∷ [])) (further_append (a ∷ b ∷ []) (c ∷ []) ∙ ap (λ (bytes : List ℕ). bytes ++ further (c ∷ [])) (further_append (a ∷ []) (b ∷ [])))
 
+-- what is put field by field is put as one run
+pub field_put : {one two three : Page} (n : ℕ) → Put one (blank ∷ []) two → Put two (decimal n) three → Put one (further (n ∷ [])) three
+field_put n a b = rw (further_one n) (then a b)
+
+pub number_put : {one two three : Page} (n : ℕ) → Put one (decimal n) two → Put two (newline ∷ []) three → Put one (line (n ∷ [])) three
+number_put n a b = rw (line_one n) (then a b)
+
+pub refusal_put : {one two three four : Page} (first second : ℕ) → Put one (decimal first) two → Put two (further (second ∷ [])) three → Put three (newline ∷ []) four → Put one (line (first ∷ second ∷ [])) four
+refusal_put first second a b c = rw (line_two first second) (then (then a b) c)
+
+pub split_put : {one two three four five : Page} (a b c d : ℕ) → Put one (further (a ∷ [])) two → Put two (further (b ∷ [])) three → Put three (further (c ∷ [])) four → Put four (further (d ∷ [])) five → Put one (further (a ∷ b ∷ c ∷ d ∷ [])) five
+split_put a b c d first second third fourth = rw (further_four a b c d) (then (then (then first second) third) fourth)
+
+pub route_put : {one two three four five six seven : Page} (first second a b c d third : ℕ) (rest : List ℕ)
+    → Put one (decimal first) two → Put two (further (second ∷ [])) three → Put three (further (a ∷ b ∷ c ∷ d ∷ [])) four → Put four (further (third ∷ [])) five → Put five (further rest) six → Put six (newline ∷ []) seven
+    → Put one (line (first ∷ second ∷ a ∷ b ∷ c ∷ d ∷ third ∷ rest)) seven
+route_put first second a b c d third rest e f g h i j = rw (line_route first second a b c d third rest) (then (then (then (then (then e f) g) h) i) j)
+
 -- the same of lengths
+pub length_field : (n : ℕ) → length (further (n ∷ [])) ≡ length (decimal n) + 1
+length_field n = ap length (further_one n) ∙ omega arith
+
 pub length_one : (n : ℕ) → length (line (n ∷ [])) ≡ length (decimal n) + 1
 length_one n = rw (line_one n) (length-append (decimal n) (newline ∷ []))
 
@@ -83,10 +105,12 @@ length_two first second =
 pub length_four : (a b c d : ℕ) → length (further (a ∷ b ∷ c ∷ d ∷ [])) ≡ length (further (a ∷ [])) + length (further (b ∷ [])) + length (further (c ∷ [])) + length (further (d ∷ []))
 length_four a b c d = omega (arith, further_length (a ∷ b ∷ c ∷ []) (d ∷ []), further_length (a ∷ b ∷ []) (c ∷ []), further_length (a ∷ []) (b ∷ []))
 
-pub length_many : (first second : ℕ) (between : List ℕ) (third : ℕ) (rest : List ℕ) → length (line (first ∷ second ∷ (between ++ (third ∷ rest)))) ≡ length (decimal first) + length (further (second ∷ [])) + length (further between) + length (further (third ∷ [])) + length (further rest) + 1
-length_many first second between third rest =
+pub length_route : (first second a b c d third : ℕ) (rest : List ℕ)
+    → length (line (first ∷ second ∷ a ∷ b ∷ c ∷ d ∷ third ∷ rest)) ≡ length (decimal first) + length (further (second ∷ [])) + length (further (a ∷ b ∷ c ∷ d ∷ [])) + length (further (third ∷ [])) + length (further rest) + 1
+length_route first second a b c d third rest =
+    let between : List ℕ = a ∷ b ∷ c ∷ d ∷ [] in
     rw (
-      line_more first second between third rest,
+      line_route first second a b c d third rest,
       length-append (decimal first ++ further (second ∷ []) ++ further between ++ further (third ∷ []) ++ further rest) (newline ∷ []),
       length-append (decimal first ++ further (second ∷ []) ++ further between ++ further (third ∷ [])) (further rest),
       length-append (decimal first ++ further (second ∷ []) ++ further between) (further (third ∷ [])),

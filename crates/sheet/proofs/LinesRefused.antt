@@ -1,4 +1,5 @@
 -- The right bytes are what book A's route and fare say, and others are none, since the contracts allow one outcome only.
+use Rattle.std.specs.Prelude.{Some, Option}
 use Prim.Native.Nat.{ℕ}
 use mathlib.Core.Path.{◌≡◌, refl, ap₂}
 use mathlib.Core.List.{List, [], ◌∷◌, ◌++◌, map}
@@ -11,8 +12,6 @@ use Rattle.walk.specs.Labelled.{RightAlone}
 use Rattle.walk.proofs.CaseTests.{differ}
 use Rattle.walk.proofs.EveryRow.{every_row}
 use Rattle.walk.proofs.LabelledTrue.{right_alone}
-use Rattle.sheet.specs.declared.Sheeted.{Sheeted}
-use Rattle.sheet.specs.declared.Sheeted.TheVariants.{Line}
 use Rattle.sheet.specs.Sheet.{printed}
 use Rattle.sheet.specs.FareSheet.{printed as fare-printed}
 use Rattle.sheet.specs.RefusedLines.{input_a, line_a, wrong_lines, Prints, LinesRefused, fare_input_a, text_a, wrong_texts, FarePrints, TextsRefused}
@@ -28,7 +27,7 @@ same_front (a ∷ rest) [] xs ys h e = absurd (omega arith)
 same_front (a ∷ rest) (b ∷ others) xs ys h e = ap₂ ◌∷◌ (cc) (same_front rest others xs ys (omega arith) (cc))
 
 -- what stands at the front of a text is told by the answer and by what is left in the text
-bytes_one : (one other xs ys : List ℕ) → ◌≡◌ {A = Sheeted} (Line (length one)) (Line (length other)) → one ++ xs ≡ other ++ ys → one ≡ other
+bytes_one : (one other xs ys : List ℕ) → ◌≡◌ {A = Option ℕ} (Some (length one)) (Some (length other)) → one ++ xs ≡ other ++ ys → one ≡ other
 bytes_one one other xs ys answer after = same_front one other xs ys (cc) after
 
 -- where one text alone is printed, others are refused

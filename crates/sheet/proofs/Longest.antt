@@ -8,8 +8,8 @@ use lib.Dec.{ltb}
 use lib.ListN.{length, length-append}
 use borrow.Author.Tests.{ltb-true}
 use Rattle.book.specs.declared.Counts.{Counts}
-use Rattle.book.specs.declared.Checked.TheVariants.{Good}
-use Rattle.book.specs.Check.{check_of}
+use Rattle.std.specs.Prelude.{Ok}
+use Rattle.book.specs.Check.{number_of, place_of, check_of}
 use Rattle.book.proofs.Limits.{both}
 use Rattle.book.proofs.GoodBook.{good_book}
 use Rattle.walk.specs.declared.Split.{Split}
@@ -21,7 +21,7 @@ use Rattle.search.proofs.RouteRoom.{room_serves, links_exist}
 use Rattle.sheet.specs.Line.{decimal, further, line}
 use Rattle.sheet.specs.Sheet.{origin_of, destination_of, book_of, route_fields, Planned, refused, no_walk, done, Says, short, asked, longest_line}
 use Rattle.sheet.proofs.DigitLaws.{length_below}
-use Rattle.sheet.proofs.LineLaws.{further_one, length_two, length_four, length_many}
+use Rattle.sheet.proofs.LineLaws.{further_one, length_two, length_four, length_route}
 use Rattle.sheet.proofs.TestLaws.{tests_limited, tests_passed}
 
 -- a field that is not the first has a blank and its digits
@@ -48,7 +48,7 @@ split_below split h =
       further_below 8 split.extra (omega arith),
     )
 
-module _ (book : List ℕ) (r s : ℕ) (counts : Counts) (checked : check_of book ≡ Good counts) (links : List ℕ) (route : Route (view_of book counts) r s links) where
+module _ (book : List ℕ) (r s : ℕ) (counts : Counts) (checked : check_of book ≡ Ok counts) (links : List ℕ) (route : Route (view_of book counts) r s links) where
   links_room : length (further links) ≤ 5 * length links
   links_room =
       let few = (good_book book counts checked).limited.links in
@@ -64,7 +64,7 @@ module _ (book : List ℕ) (r s : ℕ) (counts : Counts) (checked : check_of boo
       let figure = further_below 8 (cost_of (view_of book counts) links) (omega arith) in
       let count = further_below 3 (length links) (omega arith) in
       let four = split_below split (omega (arith, adds_up (view_of book counts) links)) in
-      omega (arith, length_many 0 (cost_of (view_of book counts) links) (figures_of split) (length links) links, links_room)
+      omega (arith, length_route 0 (cost_of (view_of book counts) links) split.ride split.wait split.walk split.extra (length links) links, links_room)
 
 pub refusal_line : (number place : ℕ) → number ≤ 17 → place ≤ 4096 → length (line (number ∷ place ∷ [])) ≤ longest_line
 refusal_line number place n p = omega (arith, length_two number place, length_below 1 number (omega arith), further_below 3 place (omega arith))
@@ -72,7 +72,7 @@ refusal_line number place n p = omega (arith, length_two number place, length_be
 pub longest_plan : (book : List ℕ) (r s : ℕ) (fields : List ℕ) → Planned book r s fields → length (line fields) ≤ longest_line
 longest_plan book r s fields (refused found t f) =
     let (n, p) = tests_limited book r s found t in
-    rw f (refusal_line found.number found.place (omega arith) p)
+    rw f (refusal_line (number_of found) (place_of found) (omega arith) p)
 longest_plan book r s fields (no_walk counts t none f) = rw f (refusal_line 14 0 (omega arith) (omega arith))
 longest_plan book r s fields (done counts t links route f) = rw f (route_line book r s counts (tests_passed book r s counts t) links route)
 

@@ -7,7 +7,7 @@ use native.Mathlib.Omega.{arith}
 use lib.Dec.{ltb}
 use lib.ListN.{length, length-append}
 use Rattle.book.specs.declared.Counts.{Counts}
-use Rattle.book.specs.declared.Checked.TheVariants.{Good}
+use Rattle.std.specs.Prelude.{Ok}
 use Rattle.book.specs.Check.{check_of}
 use Rattle.walk.specs.View.{view_of}
 use Rattle.walk.specs.Walks.{all}
@@ -30,15 +30,15 @@ use Rattle.sheet.proofs.FareTables.{good_entries, read_good}
 use Rattle.sheet.proofs.FareText.{text_one, text_two}
 
 -- a fare has 14 digits at most
-fare_line : (book : List ℕ) (counts : Counts) (table : List ℕ) (terms : Terms) (links : List ℕ) → check_of book ≡ Good counts → fares_good counts table terms ≡ true → all (map (λ l. ltb l counts.links) links) ≡ true → length links ≤ route_room
+fare_line : (book : List ℕ) (counts : Counts) (table : List ℕ) (terms : Terms) (links : List ℕ) → check_of book ≡ Ok counts → fares_good counts table terms ≡ true → all (map (λ l. ltb l counts.links) links) ≡ true → length links ≤ route_room
     → length (line ((fare_of (fares_of (view_of book counts) table terms) links).0 ∷ [])) ≤ 15
 fare_line book counts table terms links checked good exist few =
     let most = fare_most counts.links (fares_of (view_of book counts) table terms) (limited_fares book counts table terms checked good) links exist in
     omega (arith, length_one (fare_of (fares_of (view_of book counts) table terms) links).0, length_below 13 (fare_of (fares_of (view_of book counts) table terms) links).0 (omega arith))
 
-pub fare_fits : {book : List ℕ} {counts : Counts} {r cost : ℕ} {links bytes : List ℕ} {terms : Terms} {table after : List ℕ} {answer : Bool} → RouteToFare book counts r cost links → length table ≡ counts.links + counts.lines → FaresRead counts bytes terms table answer after → answer ≡ true
+pub fare_fits : {book : List ℕ} {counts : Counts} {r cost : ℕ} {links bytes : List ℕ} {terms : Terms} {table after : List ℕ} {answer : Bool} → check_of book ≡ Ok counts → RouteToFare book counts r cost links → length table ≡ counts.links + counts.lines → FaresRead counts bytes terms table answer after → answer ≡ true
     → (fare : Won) → fare ≡ fare_of (fares_of (view_of book counts) after terms) links → length (line (fare.0 ∷ [])) ≤ 15
-fare_fits {book} {counts} {r} {cost} {links} {bytes} {terms} {table} {after} route sized read good fare e = rw e (fare_line book counts after terms links route.checked (read_good sized read good) route.given.exist route.few)
+fare_fits {book} {counts} {r} {cost} {links} {bytes} {terms} {table} {after} checked route sized read good fare e = rw e (fare_line book counts after terms links checked (read_good sized read good) route.given.exist route.few)
 
 one_line : (lines : List (List ℕ)) (fields : List ℕ) → lines ≡ fields ∷ [] → length (text_of lines) ≡ length (line fields)
 one_line lines fields e = rw (e, text_one fields)

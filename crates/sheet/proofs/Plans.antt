@@ -7,62 +7,64 @@ use lib.ListN.{length, take, drop, length-append}
 use lib.Seq.{take_at}
 use Rattle.book.specs.declared.Counts.{Counts}
 use Rattle.book.specs.declared.Refusal.{Refusal}
-use Rattle.book.specs.declared.Checked.TheVariants.{Good, Refused}
-use Rattle.book.specs.Check.{check_of, refusal}
+use Rattle.std.specs.Prelude.{Ok, Err, Some}
+use Rattle.book.specs.Check.{number_of, place_of, check_of}
 use Rattle.walk.specs.View.{view_of}
 use Rattle.walk.specs.Walks.{cost_of}
 use Rattle.walk.specs.Labels.{Route}
 use Rattle.walk.specs.steps.Splits.{split_in}
 use Rattle.walk.proofs.theory.Laws.{clash}
-use Rattle.search.specs.declared.Routed.{Routed}
-use Rattle.search.specs.declared.Routed.TheVariants.{Done as RouteDone, Refused as RouteRefused}
 use Rattle.search.specs.Tests.{both_nodes}
-use Rattle.search.proofs.RouteRoom.{node_leaves}
+use Rattle.search.proofs.RouteRoom.{node_leaves, same_figures}
 use Rattle.search.proofs.RouteAccounted.{route_costed}
-use Rattle.sheet.specs.declared.Sheeted.TheVariants.{Line}
-use Rattle.sheet.specs.Sheet.{before_book, origin_of, destination_of, book_of, route_fields, fields_of, Planned, refused, no_walk, done, asked, longest_line, Sheet, printed}
+use Rattle.sheet.specs.Line.{line}
+use Rattle.sheet.specs.Sheet.{route_fields, fields_of, Planned, refused, no_walk, done, Says, longest_line, Sheet, printed}
 use Rattle.sheet.specs.steps.Planning.{Found, refused as found_refused, no_walk as found_none, done as found_route}
 use Rattle.sheet.specs.steps.Routes.{asked_fields}
-use Rattle.sheet.specs.steps.Asking.{LinePut}
+use Rattle.sheet.specs.declared.Page.{Page}
+use Rattle.sheet.specs.steps.Storing.{Put}
+use Rattle.sheet.proofs.StoreLaws.{whole}
+use Rattle.sheet.proofs.Longest.{longest_line_lem}
+use Rattle.book.specs.declared.Refusal.TheVariants.{NoWalk}
+use Rattle.search.specs.Route.{routed, RouteAnswer}
 
 -- the fields of a refusal
 abbrev pub refusal_fields : Refusal → List ℕ
-refusal_fields found = found.number ∷ found.place ∷ []
+refusal_fields found = number_of found ∷ place_of found ∷ []
 
-pub book_refused : (book : List ℕ) (r s : ℕ) (found : Refusal) → check_of book ≡ Refused found → Planned book r s (refusal_fields found)
+pub book_refused : (book : List ℕ) (r s : ℕ) (found : Refusal) → check_of book ≡ Err found → Planned book r s (refusal_fields found)
 book_refused book r s found e = refused found (node_leaves _ s found (node_leaves _ r found e)) refl
 
 -- so many links, at the front of the buffer, are the route
 pub record Led (book : List ℕ) (r s : ℕ) (after : List ℕ) (cost count : ℕ) : Type 0 where
   pub counts : Counts
-  pub passed : both_nodes book r s ≡ Good counts
+  pub passed : both_nodes book r s ≡ Ok counts
   pub route : Route (view_of book counts) r s (take count after)
   pub costs : cost ≡ cost_of (view_of book counts) (take count after)
   pub within : count ≤ length after
   pub front : length (take count after) ≡ count
 
-module _ (book : List ℕ) (r s : ℕ) (buffer : List ℕ) (answer : Routed) (after : List ℕ) where
-  pub refusal_planned : Found book r s buffer answer after → (found : Refusal) → answer ≡ RouteRefused found → Planned book r s (refusal_fields found)
+module _ (book : List ℕ) (r s : ℕ) (buffer : List ℕ) (answer : RouteAnswer) (after : List ℕ) where
+  pub refusal_planned : Found book r s buffer answer after → (found : Refusal) → answer ≡ Err found → Planned book r s (refusal_fields found)
   refusal_planned (found_refused own e a left) found told =
       let same : own ≡ found = cc (told, a) in
       refused own e (ap refusal_fields (sym same))
   refusal_planned (found_none counts e none a left) found told =
-      let same : refusal 14 0 ≡ found = cc (told, a) in
+      let same : NoWalk ≡ found = cc (told, a) in
       no_walk counts e none (ap refusal_fields (sym same))
   refusal_planned (found_route counts e links route a left) found told = clash (cc (told, a))
 
-  pub route_led : (cost count : ℕ) → Found book r s buffer answer after → answer ≡ RouteDone cost count → Led book r s after cost count
+  pub route_led : (cost count : ℕ) → Found book r s buffer answer after → answer ≡ routed cost count → Led book r s after cost count
   route_led cost count (found_refused own e a left) told = clash (cc (told, a))
   route_led cost count (found_none counts e none a left) told = clash (cc (told, a))
   route_led cost count (found_route counts e links route a left) told =
-      let same : length links ≡ count = cc (told, a) in
-      let cost_same : cost ≡ cost_of (view_of book counts) links = cc (told, a) in
+      let (cost_same, same) = same_figures a told in
       let links_same : take count after ≡ links = ap (take count) left ∙ take_at links (drop (length links) buffer) count same in
       record {
         counts = counts;
         passed = e;
         route = subst (Route (view_of book counts) r s) (sym links_same) route;
-        costs = rw (links_same) cost_same;
+        costs = rw (links_same) (sym cost_same);
         within = omega (arith, ap length left, length-append links (drop (length links) buffer));
         front = ap length links_same ∙ same;
       }
@@ -77,10 +79,8 @@ module _ {book : List ℕ} {r s : ℕ} {after : List ℕ} {cost count : ℕ} (le
   pub led_planned : Planned book r s (asked_fields book r cost (take count after))
   led_planned = done led.counts led.passed (take count after) led.route led_fields
 
--- the line that stands in the text is the input's own
-pub line_said : (input text after : List ℕ) (end : ℕ) (book : List ℕ) (r s : ℕ) → longest_line ≤ length text → before_book ≤ length input → book ≡ book_of input → r ≡ origin_of input → s ≡ destination_of input → LinePut book r s text after end
-    → Sheet input text (Line end) after
-line_said input text after end book r s room long e f g put =
-    printed room put.fields (asked long (subst (λ (x : ℕ). Planned (book_of input) (origin_of input) x put.fields) g (subst (λ (x : ℕ). Planned (book_of input) x s put.fields) f (subst (λ (x : List ℕ). Planned x r s put.fields) e put.planned))))
-    (ap Line put.end_at)
-    put.text_after
+-- a line that is put from the start, and that the input says, is the sheet of the input
+pub line_said : (input text left : List ℕ) {fields : List ℕ} {before after : Page} → Put before (line fields) after → before.at ≡ 0 → before.text.now ≡ text → left ≡ after.text.now → longest_line ≤ length text → Says input fields → Sheet input text (Some after.at) left
+line_said input text left {fields} put start lent kept room says =
+    let (stands, end) = whole put start (rw lent (omega (arith, longest_line_lem input fields says))) in
+    printed room fields says (ap Some end) (kept ∙ rw lent at stands)

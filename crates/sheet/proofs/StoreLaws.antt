@@ -1,12 +1,13 @@
--- Bytes stored one run after the other are stored as one run, and a run from the start of a text is followed by the rest of the text.
+-- Bytes put one run after the other are put as one run, and a run from the start of a text is followed by the rest of the text.
 use Prim.Native.Nat.{ℕ, suc, ◌+◌, ◌≤◌}
 use mathlib.Core.Path.{◌≡◌, ap, ◌∙◌}
 use mathlib.Core.List.{List, [], ◌∷◌, ◌++◌}
-use native.Mathlib.Nat.{add-zero}
+use native.Mathlib.Nat.{add-zero, zero-add}
 use native.Mathlib.Omega.{arith}
 use lib.ListN.{length, set, drop, length-append}
-use lib.Seq.{sets, sets-eq, length-sets}
-use Rattle.sheet.specs.steps.Storing.{Stored}
+use lib.Seq.{sets, sets-eq}
+use Rattle.sheet.specs.declared.Page.{Page}
+use Rattle.sheet.specs.steps.Storing.{Put}
 
 runs_joined : (xs ys text : List ℕ) (at : ℕ) → sets (sets text at xs) (at + length xs) ys ≡ sets text at (xs ++ ys)
 runs_joined [] ys text at = ap (λ (k : ℕ). sets text k ys) (add-zero at)
@@ -14,20 +15,16 @@ runs_joined (x ∷ xs) ys text at =
     let e : at + suc (length xs) ≡ suc at + length xs = omega arith in
     rw e (runs_joined xs ys (set text at x) (suc at))
 
-pub then : {text xs ys one two : List ℕ} {at middle next : ℕ} → Stored text at xs one middle → Stored one middle ys two next → Stored text at (xs ++ ys) two next
-then {text} {xs} {ys} {one} {two} {at} {middle} {next} a b =
-    record {
-      text_after = b.text_after ∙ rw (a.text_after, a.place_after) (runs_joined xs ys text at);
-      place_after = omega (arith, a.place_after, b.place_after, length-append xs ys);
-    }
+module _ {one two : Page} {xs : List ℕ} (first : Put one xs two) where
+  pub then : {ys : List ℕ} {three : Page} → Put two ys three → Put one (xs ++ ys) three
+  then {ys} {three} second =
+      record {
+        text_after = second.text_after ∙ rw (first.text_after, first.place_after) (runs_joined xs ys one.text.now one.at);
+        length_after = second.length_after ∙ first.length_after;
+        place_after = omega (arith, first.place_after, second.place_after, length-append xs ys);
+        same = second.same ∙ first.same;
+      }
 
-pub stored_length : {text bytes after : List ℕ} {at next : ℕ} → Stored text at bytes after next → length after ≡ length text
-stored_length {text} {bytes} {after} {at} {next} stored = ap length stored.text_after ∙ length-sets text at bytes
-
--- a line stored from the start: the line, then the rest of the text
-pub whole : {text bytes after : List ℕ} {next : ℕ} (line : List ℕ) → line ≡ bytes → Stored text 0 bytes after next → length line ≤ length text → (after ≡ line ++ drop (length line) text) × (next ≡ length line)
-whole {text} {bytes} {after} {next} line same stored h =
-    let e : 0 + length line ≡ length line = omega arith in (
-      rw (← same) at stored.text_after ∙ sets-eq line text 0 (omega arith) ∙ ap (λ (k : ℕ). line ++ drop k text) e,
-      rw (← same) at stored.place_after ∙ e,
-    )
+  -- bytes put from the start: the bytes, then the rest of the text
+  pub whole : one.at ≡ 0 → length xs ≤ length one.text.now → (two.text.now ≡ xs ++ drop (length xs) one.text.now) × (two.at ≡ length xs)
+  whole start h = (first.text_after ∙ rw start (sets-eq xs one.text.now 0 (omega arith) ∙ ap (λ (k : ℕ). xs ++ drop k one.text.now) (zero-add (length xs))), omega (arith, first.place_after))

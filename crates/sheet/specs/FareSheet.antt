@@ -1,7 +1,6 @@
 -- Document 02, request 3, for the fare printer: the lines for every input, and what is left in the text that was lent for them.
-use Rattle.std.specs.Prelude.{ℕ, ◌+◌, ◌*◌, ◌/◌, ◌%◌, ◌≤◌, ◌<◌, ◌≡◌, List, [], ◌∷◌, ◌++◌, Bool, true, false, ◌&&◌, eqb, length, take, drop}
+use Rattle.std.specs.Prelude.{ℕ, ◌+◌, ◌*◌, ◌/◌, ◌%◌, ◌≤◌, ◌<◌, ◌≡◌, List, [], ◌∷◌, ◌++◌, Bool, true, false, ◌&&◌, eqb, length, take, drop, Ok, Some, None, Option}
 use Rattle.book.specs.declared.Counts.{Counts}
-use Rattle.book.specs.declared.Checked.TheVariants.{Good}
 use Rattle.book.specs.Number.{number_at}
 use Rattle.walk.specs.View.{up_to, view_of}
 use Rattle.walk.specs.Labels.{Route}
@@ -10,8 +9,6 @@ use Rattle.fare.specs.declared.Terms.{Terms}
 use Rattle.fare.specs.Amounts.{in_metres, in_won}
 use Rattle.fare.specs.Fares.{fares_of, fares_good}
 use Rattle.fare.specs.Fare.{fare_of}
-use Rattle.sheet.specs.declared.Sheeted.{Sheeted}
-use Rattle.sheet.specs.declared.Sheeted.TheVariants.{Line, NoRoom}
 use Rattle.sheet.specs.Line.{line}
 use Rattle.sheet.specs.Sheet.{origin_of, destination_of, route_fields, Planned}
 
@@ -51,9 +48,9 @@ bytes_good counts bytes terms = eqb (length bytes % entry_bytes) 0 && fares_good
 -- the lines for the way from r to s: the printer's own and, after a route's, its fare in won alone; 17 and 0 where there is a route but the fares are not good
 pub data FarePlanned (book : List ℕ) (r s : ℕ) (table : List ℕ) (terms : Terms) (lines : List (List ℕ)) : Type 0 where
   refused : (number place : ℕ) → Planned book r s (number ∷ place ∷ []) → lines ≡ (number ∷ place ∷ []) ∷ [] → FarePlanned book r s table terms lines
-  bad_fares : (counts : Counts) → both_nodes book r s ≡ Good counts → (links : List ℕ) → Route (view_of book counts) r s links
+  bad_fares : (counts : Counts) → both_nodes book r s ≡ Ok counts → (links : List ℕ) → Route (view_of book counts) r s links
       → bytes_good counts table terms ≡ false → lines ≡ (17 ∷ 0 ∷ []) ∷ [] → FarePlanned book r s table terms lines
-  done : (counts : Counts) → both_nodes book r s ≡ Good counts → (links : List ℕ) → Route (view_of book counts) r s links
+  done : (counts : Counts) → both_nodes book r s ≡ Ok counts → (links : List ℕ) → Route (view_of book counts) r s links
       → bytes_good counts table terms ≡ true
       → lines ≡ route_fields (view_of book counts) links ∷ ((fare_of (fares_of (view_of book counts) (entries_of table) terms) links).0 ∷ []) ∷ []
       → FarePlanned book r s table terms lines
@@ -73,6 +70,6 @@ abbrev pub longest_text : ℕ
 longest_text = 20557
 
 -- what a fare sheet answers, and leaves in the text that it was lent: a text shorter than the longest is left as it was
-pub data FareSheet (input text : List ℕ) (answer : Sheeted) (after : List ℕ) : Type 0 where
-  no_room : length text < longest_text → answer ≡ NoRoom → after ≡ text → FareSheet input text answer after
-  printed : longest_text ≤ length text → (lines : List (List ℕ)) → FareSays input lines → answer ≡ Line (length (text_of lines)) → after ≡ text_of lines ++ drop (length (text_of lines)) text → FareSheet input text answer after
+pub data FareSheet (input text : List ℕ) (answer : Option ℕ) (after : List ℕ) : Type 0 where
+  no_room : length text < longest_text → answer ≡ None → after ≡ text → FareSheet input text answer after
+  printed : longest_text ≤ length text → (lines : List (List ℕ)) → FareSays input lines → answer ≡ Some (length (text_of lines)) → after ≡ text_of lines ++ drop (length (text_of lines)) text → FareSheet input text answer after

@@ -1,9 +1,8 @@
 -- What wrong printers would print of book A's route from 0 to 3, byte for byte.
-use Rattle.std.specs.Prelude.{ℕ, ◌≤◌, List, [], ◌∷◌, ◌++◌, length, drop}
+use Rattle.std.specs.Prelude.{ℕ, ◌≤◌, List, [], ◌∷◌, ◌++◌, length, drop, Some}
 use Rattle.book.specs.BookA.{written, book_a}
 use Rattle.walk.specs.Cases.{All}
 use Rattle.walk.specs.Labelled.{RightAlone}
-use Rattle.sheet.specs.declared.Sheeted.TheVariants.{Line}
 use Rattle.sheet.specs.Sheet.{longest_line, Sheet}
 use Rattle.sheet.specs.FareSheet.{longest_text, FareSheet}
 
@@ -46,7 +45,7 @@ wrong_lines =
 
 -- the contract allows these bytes at the front of the text, and the rest as it was
 abbrev pub Prints : List ℕ → List ℕ → Type 0
-Prints text bytes = Sheet input_a text (Line (length bytes)) (bytes ++ drop (length bytes) text)
+Prints text bytes = Sheet input_a text (Some (length bytes)) (bytes ++ drop (length bytes) text)
 
 abbrev pub LinesRefused : Type 0
 LinesRefused = (text : List ℕ) → longest_line ≤ length text → All (RightAlone (Prints text) line_a) wrong_lines
@@ -79,7 +78,7 @@ wrong_texts =
     ∷ []
 
 abbrev pub FarePrints : List ℕ → List ℕ → Type 0
-FarePrints text bytes = FareSheet fare_input_a text (Line (length bytes)) (bytes ++ drop (length bytes) text)
+FarePrints text bytes = FareSheet fare_input_a text (Some (length bytes)) (bytes ++ drop (length bytes) text)
 
 abbrev pub TextsRefused : Type 0
 TextsRefused = (text : List ℕ) → longest_text ≤ length text → All (RightAlone (FarePrints text) text_a) wrong_texts

@@ -1,62 +1,58 @@
 // The sheet of an input: the book's check, then the plan, and the line of what they answer.
-ghost use Rattle.std.specs.Prelude.{◌≡◌, ◌≤◌, length};
-ghost use Rattle.book.specs.declared.Checked.TheVariants.{Good};
-ghost use Rattle.book.specs.Check.{check_of};
+ghost use Rattle.std.specs.Prelude.{◌+◌, ◌≤◌, length};
 ghost use Rattle.sheet.specs.Sheet.{longest_line, Sheet};
 ghost use Rattle.sheet.specs.steps.Asking.{LinePut};
 
-use super::Sheeted;
 use super::figures::{BEFORE_BOOK, LONGEST_LINE};
-use super::lines::put_refusal;
 use super::planning::plan;
-use super::routes::print_route;
-use book::{Checked, Counts, NodeNumber};
-use search::{ROUTE_ROOM, Routed, check, number_at};
+use super::routes::{RouteFound, print_route};
+use super::ways::way_of;
+use super::{Page, Way};
+use book::{CheckedBook, Refusal};
+use search::{ROUTE_ROOM, check};
 
 // The plan's line, from the sheet's own route buffer.
-fn print_plan(
-    book: &[u8],
-    counts: Counts,
-    origin: NodeNumber,
-    destination: NodeNumber,
-    text: &mut [u8],
-) -> usize
-    requires { (check_of book.now ≡ Good counts) × (longest_line ≤ length text.old) }
-    ensures { LinePut book.now origin.0 destination.0 text.old text.new result }
+fn print_plan(book: CheckedBook<'_>, way: Way, page: &mut Page<'_>)
+    requires { page.old.at + longest_line ≤ length page.old.text.now }
+    ensures { LinePut book.entry.bytes.now way.origin.0 way.destination.0 page.old page.new }
 {
     let mut links = [0u16; ROUTE_ROOM];
-    match plan(book, counts, origin, destination, &mut links) {
-        Routed::Refused(found) => put_refusal(text, found.number, found.place),
-        Routed::Done(cost, count) => {
-            print_route(book, origin, cost, &links[..count as usize], text)
+    match plan(book, way, &mut links) {
+        Err(found) => page.put_refusal(found),
+        Ok(routed) => {
+            let route = RouteFound {
+                origin: way.origin,
+                cost: routed.cost,
+                links: &links[..usize::from(routed.links)],
+            };
+            print_route(book, route, page);
         }
     }
 }
 
 // The book's own number comes before 10.
-fn print_book(book: &[u8], origin: NodeNumber, destination: NodeNumber, text: &mut [u8]) -> usize
-    requires { longest_line ≤ length text.old }
-    ensures { LinePut book.now origin.0 destination.0 text.old text.new result }
+fn print_book(book: &[u8], way: Way, page: &mut Page<'_>)
+    requires { page.old.at + longest_line ≤ length page.old.text.now }
+    ensures { LinePut book.now way.origin.0 way.destination.0 page.old page.new }
 {
     match check(book) {
-        Checked::Refused(found) => put_refusal(text, found.number, found.place),
-        Checked::Good(counts) => print_plan(book, counts, origin, destination, text),
+        Err(found) => page.put_refusal(found),
+        Ok(counts) => print_plan(CheckedBook::carry(book, counts), way, page),
     }
 }
 
-// Document 01, the route printer: exactly one line for every input.
-pub fn sheet(input: &[u8], text: &mut [u8]) -> Sheeted
+// Document 01, the route printer: exactly one line for every input, or none where the text is shorter than the longest.
+pub fn sheet(input: &[u8], text: &mut [u8]) -> Option<usize>
     ensures { Sheet input.now text.old result text.new }
 {
     if text.len() < LONGEST_LINE {
-        return Sheeted::NoRoom;
+        return None;
     }
-    let end = input.len();
-    if end < BEFORE_BOOK {
-        return Sheeted::Line(put_refusal(text, 1, 0));
+    let mut page = Page { text, at: 0 };
+    if input.len() < BEFORE_BOOK {
+        page.put_refusal(Refusal::TooShort);
+        return Some(page.at);
     }
-    let origin = NodeNumber(number_at(input, 0));
-    let destination = NodeNumber(number_at(input, 2));
-    let from = BEFORE_BOOK;
-    Sheeted::Line(print_book(&input[from..end], origin, destination, text))
+    print_book(&input[BEFORE_BOOK..], way_of(input), &mut page);
+    Some(page.at)
 }

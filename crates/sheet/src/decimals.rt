@@ -1,7 +1,9 @@
-// A number in decimal digits, written into a text from a place on; each function answers the place after what it wrote.
-ghost use Rattle.std.specs.Prelude.{◌≡◌, [], ◌∷◌, ◌+◌, ◌<◌, ◌≤◌, length};
+// A page takes a byte, or a number in decimal digits, at its place.
+ghost use Rattle.std.specs.Prelude.{◌≡◌, [], ◌∷◌, ◌<◌};
 ghost use Rattle.sheet.specs.Line.{digit, decimal};
-ghost use Rattle.sheet.specs.steps.Storing.{Stored};
+ghost use Rattle.sheet.specs.steps.Storing.{Room, Put};
+
+use super::Page;
 
 fn digit_of(n: usize) -> u8
     requires { n < 10 }
@@ -10,22 +12,25 @@ fn digit_of(n: usize) -> u8
     b'0' + n as u8
 }
 
-pub fn put_byte(text: &mut [u8], at: usize, byte: u8) -> usize
-    requires { at < length text.old }
-    ensures { Stored text.old at (byte ∷ []) text.new result }
-{
-    text[at] = byte;
-    at + 1
-}
-
-// All digits but the last, then the last.
-pub fn put_decimal(text: &mut [u8], at: usize, n: usize) -> usize
-    requires { at + length (decimal n) ≤ length text.old }
-    ensures { Stored text.old at (decimal n) text.new result }
-{
-    if n < 10 {
-        return put_byte(text, at, digit_of(n));
+impl Page<'_> {
+    pub fn put_byte(&mut self, byte: u8)
+        requires { Room self.old (byte ∷ []) }
+        ensures { Put self.old (byte ∷ []) self.new }
+    {
+        self.text[self.at] = byte;
+        self.at += 1;
     }
-    let next = put_decimal(text, at, n / 10);
-    put_byte(text, next, digit_of(n % 10))
+
+    // All digits but the last, then the last.
+    pub fn put_decimal(&mut self, n: usize)
+        requires { Room self.old (decimal n) }
+        ensures { Put self.old (decimal n) self.new }
+    {
+        if n < 10 {
+            self.put_byte(digit_of(n));
+        } else {
+            self.put_decimal(n / 10);
+            self.put_byte(digit_of(n % 10));
+        }
+    }
 }

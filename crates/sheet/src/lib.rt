@@ -1,6 +1,8 @@
 // The sheets: the one line that the route printer prints for an input, and the lines of the fare printer.
 #![tactic(auto)]
 
+use book::NodeNumber;
+
 mod asking;
 mod decimals;
 mod faring;
@@ -8,13 +10,21 @@ mod figures;
 mod lines;
 mod planning;
 mod routes;
+mod ways;
 
 pub use asking::sheet;
 pub use faring::fare_sheet;
 
-// What a sheet answers: how many bytes are printed, or that the lent text is shorter than the longest that may be.
+// A text that is lent to be printed on, and the place of the next byte.
+#[derive(Drop)]
+struct Page<'a> {
+    text: &'a mut [u8],
+    at: usize,
+}
+
+// The way that an input asks for.
 #[derive(Clone, Copy)]
-pub enum Sheeted {
-    Line(usize),
-    NoRoom,
+struct Way {
+    origin: NodeNumber,
+    destination: NodeNumber,
 }

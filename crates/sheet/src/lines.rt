@@ -1,81 +1,81 @@
 // The lines of a sheet: a refusal's number and place, or a route's cost, where its minutes go, and its links.
-ghost use Rattle.std.specs.Prelude.{◌≡◌, [], ◌∷◌, ◌+◌, ◌≤◌, length};
+ghost use Rattle.std.specs.Prelude.{[], ◌∷◌};
+ghost use Rattle.book.specs.Check.{number_of, place_of};
 ghost use Rattle.walk.specs.Walks.{figures_of};
 ghost use Rattle.sheet.specs.Line.{further, line};
 ghost use Rattle.sheet.specs.Sheet.{fields_of};
-ghost use Rattle.sheet.specs.steps.Storing.{Stored, LineFirst};
+ghost use Rattle.sheet.specs.steps.Storing.{Room, Put};
 
-use super::decimals::{put_byte, put_decimal};
+use super::Page;
+use book::Refusal;
 use walk::Split;
 
 // What ends every line.
 const NEWLINE: u8 = b'\n';
 
-fn widened(n: u16) -> usize
-    ensures { result ≡ n }
-{
-    n as usize
-}
-
-// A field that is not the first, after its blank.
-fn put_field(text: &mut [u8], at: usize, n: usize) -> usize
-    requires { at + length (further (n ∷ [])) ≤ length text.old }
-    ensures { Stored text.old at (further (n ∷ [])) text.new result }
-{
-    let next = put_byte(text, at, b' ');
-    put_decimal(text, next, n)
-}
-
-fn put_links(text: &mut [u8], at: usize, links: &[u16]) -> usize
-    requires { at + length (further links.now) ≤ length text.old }
-    ensures { Stored text.old at (further links.now) text.new result }
-{
-    let mut next = at;
-    let mut passed = 0;
-    while passed < links.len() {
-        next = put_field(text, next, widened(links[passed]));
-        passed += 1;
+impl Page<'_> {
+    // A field that is not the first, after its blank.
+    #[tactic(auto, using(crate::proofs::LineLaws::length_field, crate::proofs::LineLaws::field_put))]
+    fn put_field(&mut self, n: usize)
+        requires { Room self.old (further (n ∷ [])) }
+        ensures { Put self.old (further (n ∷ [])) self.new }
+    {
+        self.put_byte(b' ');
+        self.put_decimal(n);
     }
-    next
-}
 
-pub fn put_refusal(text: &mut [u8], number: u8, place: usize) -> usize
-    requires { length (line (number ∷ place ∷ [])) ≤ length text.old }
-    ensures { LineFirst (number ∷ place ∷ []) text.old text.new result }
-{
-    let at = put_decimal(text, 0, number as usize);
-    let at = put_field(text, at, place);
-    put_byte(text, at, NEWLINE)
-}
+    #[tactic(auto, using(crate::proofs::LineLaws::all_put, crate::proofs::LineLaws::taken_within))]
+    fn put_links(&mut self, links: &[u16])
+        requires { Room self.old (further links.now) }
+        ensures { Put self.old (further links.now) self.new }
+    {
+        for link in links {
+            self.put_field(usize::from(*link));
+        }
+    }
 
-// A line of one number, after what stands before `at`.
-pub fn put_number(text: &mut [u8], at: usize, n: usize) -> usize
-    requires { at + length (line (n ∷ [])) ≤ length text.old }
-    ensures { Stored text.old at (line (n ∷ [])) text.new result }
-{
-    let next = put_decimal(text, at, n);
-    put_byte(text, next, NEWLINE)
-}
+    #[tactic(auto, using(crate::proofs::LineLaws::length_two, crate::proofs::LineLaws::refusal_put))]
+    pub fn put_refusal(&mut self, found: Refusal)
+        requires { Room self.old (line (number_of found ∷ place_of found ∷ [])) }
+        ensures { Put self.old (line (number_of found ∷ place_of found ∷ [])) self.new }
+    {
+        self.put_decimal(usize::from(found.number()));
+        self.put_field(found.place());
+        self.put_byte(NEWLINE);
+    }
 
-// The four figures, each after its blank.
-fn put_split(text: &mut [u8], at: usize, split: Split) -> usize
-    requires { at + length (further (figures_of split)) ≤ length text.old }
-    ensures { Stored text.old at (further (figures_of split)) text.new result }
-{
-    let at = put_field(text, at, split.ride as usize);
-    let at = put_field(text, at, split.wait as usize);
-    let at = put_field(text, at, split.walk as usize);
-    put_field(text, at, split.extra as usize)
-}
+    // A line of one number.
+    #[tactic(auto, using(crate::proofs::LineLaws::length_one, crate::proofs::LineLaws::number_put))]
+    pub fn put_number(&mut self, n: usize)
+        requires { Room self.old (line (n ∷ [])) }
+        ensures { Put self.old (line (n ∷ [])) self.new }
+    {
+        self.put_decimal(n);
+        self.put_byte(NEWLINE);
+    }
 
-pub fn put_route(text: &mut [u8], cost: u32, split: Split, links: &[u16]) -> usize
-    requires { length (line (fields_of cost split links.now)) ≤ length text.old }
-    ensures { LineFirst (fields_of cost split links.now) text.old text.new result }
-{
-    let at = put_decimal(text, 0, 0);
-    let at = put_field(text, at, cost as usize);
-    let at = put_split(text, at, split);
-    let at = put_field(text, at, links.len());
-    let at = put_links(text, at, links);
-    put_byte(text, at, NEWLINE)
+    // The four figures, each after its blank; std has no conversion of 32 bits to a usize that cannot fail.
+    #[tactic(auto, using(crate::proofs::LineLaws::length_four, crate::proofs::LineLaws::split_put))]
+    fn put_split(&mut self, split: Split)
+        requires { Room self.old (further (figures_of split)) }
+        ensures { Put self.old (further (figures_of split)) self.new }
+    {
+        self.put_field(split.ride as usize);
+        self.put_field(split.wait as usize);
+        self.put_field(split.walk as usize);
+        self.put_field(split.extra as usize);
+    }
+
+    #[tactic(auto, using(crate::proofs::LineLaws::length_route))]
+    pub fn put_route(&mut self, cost: u32, split: Split, links: &[u16])
+        requires { Room self.old (line (fields_of cost split links.now)) }
+        ensures { Put self.old (line (fields_of cost split links.now)) self.new }
+    {
+        self.put_decimal(0);
+        self.put_field(cost as usize);
+        self.put_split(split);
+        self.put_field(links.len());
+        self.put_links(links);
+        self.put_byte(NEWLINE);
+    }
 }

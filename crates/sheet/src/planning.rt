@@ -1,82 +1,62 @@
 // The plan: a search of a good book, then the route, with label buffers of the sheet's own.
-ghost use Rattle.std.specs.Prelude.{◌≡◌, ◌≤◌, length};
-ghost use Rattle.book.specs.declared.Checked.TheVariants.{Good};
-ghost use Rattle.book.specs.Check.{check_of};
-ghost use Rattle.walk.specs.Labels.{three};
+ghost use Rattle.std.specs.Prelude.{◌≤◌, length};
+ghost use Rattle.search.specs.Lent.{table_in, SameBuffers};
 ghost use Rattle.search.specs.steps.Routes.{route_room};
-ghost use Rattle.sheet.specs.steps.Planning.{Ready, Found, Labelled};
+ghost use Rattle.search.specs.steps.Tables.{Sized};
+ghost use Rattle.sheet.specs.steps.Planning.{Found, Labelled};
 
-use book::{Counts, MOST_LINKS, MOST_TURNS, NodeNumber};
-use search::{Routed, Searched, route, search};
+use super::Way;
+use book::{CheckedBook, MOST_LINKS, MOST_TURNS, Refusal};
+use search::{LabelsMut, Routed, route, search};
 
 // A search, then the route.
 fn plan_search(
-    book: &[u8],
-    origin: NodeNumber,
-    destination: NodeNumber,
-    turn_cost: &mut [u32],
-    turn_links: &mut [u16],
-    turn_back: &mut [u16],
-    link_cost: &mut [u32],
-    link_links: &mut [u16],
-    link_back: &mut [u16],
-    links: &mut [u16],
-) -> Routed
-    requires ready { Ready book.now (three turn_cost.old turn_links.old turn_back.old) (three link_cost.old link_links.old link_back.old) }
-    requires route_room_in_bounds { route_room ≤ length links.old }
-    ensures found { Found book.now origin.0 destination.0 links.old result links.new }
-    ensures labelled { Labelled book.now origin.0 (three turn_cost.old turn_links.old turn_back.old) (three link_cost.old link_links.old link_back.old) (three turn_cost.new turn_links.new turn_back.new) (three link_cost.new link_links.new link_back.new) }
+    book: CheckedBook<'_>,
+    way: Way,
+    turns: &mut LabelsMut<'_>,
+    links: &mut LabelsMut<'_>,
+    walk: &mut [u16],
+) -> Result<Routed, Refusal>
+    requires turns_sized { Sized book.counts.turns (table_in turns.old) }
+    requires links_sized { Sized book.counts.links (table_in links.old) }
+    requires route_room_in_bounds { route_room ≤ length walk.old }
+    ensures found { Found book.entry.bytes.now way.origin.0 way.destination.0 walk.old result walk.new }
+    ensures labelled { Labelled book.entry.bytes.now way.origin.0 (table_in turns.old) (table_in links.old) (table_in turns.new) (table_in links.new) }
+    ensures same { SameBuffers turns.old turns.new × SameBuffers links.old links.new }
 {
-    match search(
-        book, origin, turn_cost, turn_links, turn_back, link_cost, link_links, link_back,
-    ) {
-        Searched::Refused(found) => Routed::Refused(found),
-        Searched::Done => {
-            route(
-                book,
-                origin,
-                destination,
-                turn_cost,
-                turn_links,
-                turn_back,
-                link_cost,
-                link_links,
-                link_back,
-                links,
-            )
-        }
-    }
+    search(book.bytes, way.origin, turns, links)?;
+    route(
+        book.bytes,
+        way.origin,
+        way.destination,
+        turns.lent(),
+        links.lent(),
+        walk,
+    )
 }
 
 // The label buffers are as long as the book's counts.
-pub fn plan(
-    book: &[u8],
-    counts: Counts,
-    origin: NodeNumber,
-    destination: NodeNumber,
-    links: &mut [u16],
-) -> Routed
-    requires { (check_of book.now ≡ Good counts) × (route_room ≤ length links.old) }
-    ensures { Found book.now origin.0 destination.0 links.old result links.new }
+pub fn plan(book: CheckedBook<'_>, way: Way, walk: &mut [u16]) -> Result<Routed, Refusal>
+    requires { route_room ≤ length walk.old }
+    ensures { Found book.entry.bytes.now way.origin.0 way.destination.0 walk.old result walk.new }
 {
-    let turns = counts.turns;
-    let count = counts.links;
+    let turns = book.counts.turns;
+    let links = book.counts.links;
     let mut turn_cost = [0u32; MOST_TURNS];
     let mut turn_links = [0u16; MOST_TURNS];
     let mut turn_back = [0u16; MOST_TURNS];
     let mut link_cost = [0u32; MOST_LINKS];
     let mut link_links = [0u16; MOST_LINKS];
     let mut link_back = [0u16; MOST_LINKS];
-    plan_search(
-        book,
-        origin,
-        destination,
-        &mut turn_cost[..turns],
-        &mut turn_links[..turns],
-        &mut turn_back[..turns],
-        &mut link_cost[..count],
-        &mut link_links[..count],
-        &mut link_back[..count],
-        links,
-    )
+    let mut turn_labels = LabelsMut {
+        cost: &mut turn_cost[..turns],
+        links: &mut turn_links[..turns],
+        back: &mut turn_back[..turns],
+    };
+    let mut link_labels = LabelsMut {
+        cost: &mut link_cost[..links],
+        links: &mut link_links[..links],
+        back: &mut link_back[..links],
+    };
+    plan_search(book, way, &mut turn_labels, &mut link_labels, walk)
 }

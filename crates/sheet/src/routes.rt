@@ -1,23 +1,24 @@
 // The line of a route just found: where its minutes go is asked of the cost of a given walk (document 02, request 5).
-ghost use Rattle.std.specs.Prelude.{◌≤◌, length};
 ghost use Rattle.sheet.specs.Line.{line};
 ghost use Rattle.sheet.specs.steps.Routes.{asked_fields};
-ghost use Rattle.sheet.specs.steps.Storing.{LineFirst};
+ghost use Rattle.sheet.specs.steps.Storing.{Room, Put};
 
-use super::lines::put_route;
-use book::NodeNumber;
+use super::Page;
+use book::{CheckedBook, NodeNumber};
 use search::{cost_of, split_in};
 
-pub fn print_route(
-    book: &[u8],
-    origin: NodeNumber,
-    cost: u32,
-    links: &[u16],
-    text: &mut [u8],
-) -> usize
-    requires { length (line (asked_fields book.now origin.0 cost links.now)) ≤ length text.old }
-    ensures { LineFirst (asked_fields book.now origin.0 cost links.now) text.old text.new result }
+// A route from its origin: its cost and its links.
+#[derive(Clone, Copy)]
+pub struct RouteFound<'a> {
+    pub origin: NodeNumber,
+    pub cost: u32,
+    pub links: &'a [u16],
+}
+
+pub fn print_route(book: CheckedBook<'_>, route: RouteFound<'_>, page: &mut Page<'_>)
+    requires { Room page.old (line (asked_fields book.bytes.now route.origin.0 route.cost route.links.now)) }
+    ensures { Put page.old (line (asked_fields book.entry.bytes.now route.entry.origin.0 route.entry.cost route.entry.links.now)) page.new }
 {
-    let split = split_in(cost_of(book, origin, links));
-    put_route(text, cost, split, links)
+    let split = split_in(cost_of(book.bytes, route.origin, route.links));
+    page.put_route(route.cost, split, route.links);
 }

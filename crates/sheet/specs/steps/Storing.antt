@@ -1,12 +1,15 @@
--- What each writer of a line does: it stores a run of bytes from a place on, and answers the place after them.
-use Rattle.std.specs.Prelude.{ℕ, ◌+◌, ◌≡◌, List, ◌++◌, length, drop}
+-- What each writer does: it stores a run of bytes on a page from its place on, and leaves the place after them.
+use Rattle.std.specs.Prelude.{ℕ, ◌+◌, ◌≤◌, ◌≡◌, List, length}
 use Rattle.std.proofs.lemmas.List.Edits.{sets}
-use Rattle.sheet.specs.Line.{line}
+use Rattle.sheet.specs.declared.Page.{Page}
 
-pub record Stored (text : List ℕ) (at : ℕ) (bytes after : List ℕ) (next : ℕ) : Type 0 where
-  pub text_after : after ≡ sets text at bytes
-  pub place_after : next ≡ at + length bytes
+-- the page has room for these bytes from its place on
+abbrev pub Room : Page → List ℕ → Type 0
+Room page bytes = page.at + length bytes ≤ length page.text.now
 
--- the line of these fields stands at the front of the text and ends at `end`; the rest of the text stays
-abbrev pub LineFirst : List ℕ → List ℕ → List ℕ → ℕ → Type 0
-LineFirst fields text after end = (after ≡ line fields ++ drop (length (line fields)) text) × (end ≡ length (line fields))
+-- the text stays the lender's own
+pub record Put (before : Page) (bytes : List ℕ) (after : Page) : Type 0 where
+  pub text_after : after.text.now ≡ sets before.text.now before.at bytes
+  pub length_after : length after.text.now ≡ length before.text.now
+  pub place_after : after.at ≡ before.at + length bytes
+  pub same : after.text.ghost_name ≡ before.text.ghost_name

@@ -1,24 +1,20 @@
 -- Each end of the code is one case of the contract.
-use Prim.Native.Nat.{ℕ, ◌+◌}
-use mathlib.Core.Path.{refl, ap, ◌∙◌}
-use native.Mathlib.Omega.{arith}
-use lib.ListN.{take, drop}
-use Rattle.sheet.specs.FareSheet.{before_fare_book, short, asked, no_room}
+use Rattle.std.proofs.Common.{rules, arith, ℕ, ◌+◌, take, drop, refl, ap, ◌∙◌}
+use Rattle.sheet.specs.FareSheet.{before_fare_book, short, asked}
 use Rattle.sheet.proofs.Longest.{refusal_line}
-use Rattle.sheet.proofs.FareText.{one_put, lines_told}
+use Rattle.sheet.proofs.FareText.{one_line_put, lines_told}
 use Rattle.sheet.proofs.FarePlans.{book_part, table_part, text_said, plan_moved}
 use Rattle.sheet.proofs.faring.fare_sheet.Goals as goal
-
-pub returns-then-text-lt-LONGEST_TEXT : goal.returns-then-text-lt-LONGEST_TEXT
-returns-then-text-lt-LONGEST_TEXT c = no_room c.if-text-lt-LONGEST_TEXT.true refl refl
 
 pub put_refusal-requires : goal.put_refusal-requires
 put_refusal-requires c = omega (arith, refusal_line 1 0 (omega arith) (omega arith), c.if-text-lt-LONGEST_TEXT.false)
 
 pub returns-then-end-lt-BEFORE_FARE_BOOK : goal.returns-then-end-lt-BEFORE_FARE_BOOK
-returns-then-end-lt-BEFORE_FARE_BOOK c = text_said c.if-text-lt-LONGEST_TEXT.false (one_put _ (short c.if-end-lt-BEFORE_FARE_BOOK.true refl) c.put_refusal.ensures)
+returns-then-end-lt-BEFORE_FARE_BOOK c = text_said _ _ _ (one_line_put _ (short c.if-end-lt-BEFORE_FARE_BOOK.true refl) c.put_refusal.ensures) refl refl (search rules) c.if-text-lt-LONGEST_TEXT.false
 
 pub returns : goal.returns
-returns c = let book = book_part c.args.input.now _ _ _ c.book_end-middle.ensures ∙ ap (λ (bytes : ℕ). take bytes (drop before_fare_book c.args.input.now)) c.long_at.ensures in
+returns c =
+    let book = book_part c.args.input.now _ _ _ c.book_end-middle.ensures ∙ ap (λ (bytes : ℕ). take bytes (drop before_fare_book c.args.input.now)) c.long_at.ensures in
     let table = table_part c.args.input.now _ _ _ c.book_end-middle.ensures ∙ ap (λ (bytes : ℕ). drop (before_fare_book + bytes) c.args.input.now) c.long_at.ensures in
-    text_said c.if-text-lt-LONGEST_TEXT.false (lines_told (λ lines plan. asked c.if-end-lt-BEFORE_FARE_BOOK.false (plan_moved lines book c.number_at.ensures c.number_at-2.ensures table c.terms_of-terms.ensures plan)) c.print_fare_book.ensures)
+    let said = lines_told (λ lines plan. asked c.if-end-lt-BEFORE_FARE_BOOK.false (plan_moved lines book c.way_of.ensures.origin c.way_of.ensures.destination table c.terms_of.ensures plan)) c.print_fare_book.ensures in
+    text_said _ _ _ said refl refl (search rules) c.if-text-lt-LONGEST_TEXT.false

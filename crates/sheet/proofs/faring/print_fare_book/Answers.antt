@@ -1,17 +1,13 @@
 -- What the check refuses, the plan refuses.
-use mathlib.Core.Path.{refl, sym, ◌∙◌}
-use native.Mathlib.Omega.{arith}
+use Rattle.std.proofs.Common.{arith, refl, sym, ◌∙◌}
 use Rattle.sheet.specs.FareSheet.{refused}
 use Rattle.sheet.proofs.Longest.{longest_plan}
 use Rattle.sheet.proofs.Plans.{book_refused}
-use Rattle.sheet.proofs.FareText.{one_put}
+use Rattle.sheet.proofs.FareText.{one_line_put}
 use Rattle.sheet.proofs.faring.print_fare_book.Goals as goal
 
 pub put_refusal-requires : goal.put_refusal-requires
-put_refusal-requires c = omega (arith, longest_plan _ c.args.origin.0 c.args.destination.0 _ (book_refused _ _ _ _ (sym c.check.ensures ∙ c.in-Refused.is)), c.requires)
+put_refusal-requires c = omega (arith, longest_plan _ c.args.way.origin.0 c.args.way.destination.0 _ (book_refused _ _ _ _ (sym c.check.ensures ∙ c.in-Err.is)))
 
-pub print_fare_plan-requires : goal.print_fare_plan-requires
-print_fare_plan-requires c = (sym c.check.ensures ∙ c.in-Good.is, c.requires)
-
-pub returns-in-Refused : goal.returns-in-Refused
-returns-in-Refused c = one_put _ (refused _ _ (book_refused _ _ _ _ (sym c.check.ensures ∙ c.in-Refused.is)) refl) c.put_refusal.ensures
+pub returns-in-Err : goal.returns-in-Err
+returns-in-Err c = one_line_put _ (refused _ _ (book_refused _ _ _ _ (sym c.check.ensures ∙ c.in-Err.is)) refl) c.put_refusal.ensures

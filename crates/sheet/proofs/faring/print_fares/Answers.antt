@@ -1,25 +1,11 @@
 -- The table, cut to the counts, has its length.
-use Prim.Native.Nat.{◌+◌, ◌≤◌}
-use mathlib.Core.Path.{sym}
-use native.Mathlib.Omega.{arith}
-use lib.Seq.{length-take-le}
-use Rattle.book.specs.declared.Counts.{Counts}
-use Rattle.book.proofs.Limits.{Limits}
-use Rattle.book.proofs.GoodBook.{good_book}
+use Rattle.std.proofs.Common.{sym}
+use Rattle.std.proofs.lemmas.List.{length-take-le}
+use Rattle.sheet.proofs.FareTables.{table_room}
 use Rattle.sheet.proofs.faring.print_fares.Goals as goal
 
--- links and lines of a good book fit the table's room
-fits : (counts : Counts) → Limits counts → counts.links + counts.lines ≤ 2304
-fits counts limited = omega (arith, limited.links, limited.lines)
-
-pub overflow_add-count : goal.overflow_add-count
-overflow_add-count c = omega (arith, (good_book _ _ c.requires.0.checked).limited)
-
-pub slice_bounds-table-end : goal.slice_bounds-table-end
-slice_bounds-table-end c = fits c.args.counts (good_book _ _ c.requires.0.checked).limited
-
 pub slice_bounds-put_fares-end : goal.slice_bounds-put_fares-end
-slice_bounds-put_fares-end c = sym (length-take-le _ _ (fits c.args.counts (good_book _ _ c.requires.0.checked).limited))
+slice_bounds-put_fares-end c = sym (length-take-le _ _ (table_room _ _ c.args.book.good))
 
-pub put_fares-requires : goal.put_fares-requires
-put_fares-requires c = (c.requires.0, (length-take-le _ _ (fits c.args.counts (good_book _ _ c.requires.0.checked).limited), c.requires.1))
+pub put_fares-requires-clause-sized : goal.put_fares-requires-clause-sized
+put_fares-requires-clause-sized c = length-take-le _ _ (table_room _ _ c.args.book.good)

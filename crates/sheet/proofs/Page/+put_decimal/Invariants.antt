@@ -1,5 +1,5 @@
 -- The number itself falls.
-use Rattle.sheet.proofs.decimals.+put_decimal.Given as goal
+use Rattle.sheet.proofs.Page.+put_decimal.Given as goal
 
 abbrev pub decreases-put_decimal : goal.decreases-put_decimal
 decreases-put_decimal l = l.n

@@ -37,6 +37,7 @@ fn table_good(counts: Counts, table: &[u32]) -> bool
     all_within(&table[..links], MOST_METRES) & all_within(&table[links..], MOST_WON)
 }
 
+// Numbers are compared, not amounts: a limit is one for the table's numbers and for the terms.
 #[tactic(auto, unfolding(crate::specs::Fares::terms_good))]
 fn terms_good(terms: Terms) -> bool
     ensures { result ≡ terms_good terms }

@@ -4,10 +4,10 @@ use mathlib.Core.Path.{◌≡◌, sym, ap, ◌∙◌}
 use mathlib.Core.List.{List, [], ◌∷◌, map}
 use mathlib.Core.Bool.{Bool, true, false, ◌&&◌}
 use native.Mathlib.Omega.{arith}
-use lib.Dec.{ltb, leb, eqb}
+use lib.Dec.{ltb, leb}
 use lib.ListN.{length, get_or, take, drop, length-drop}
 use lib.Seq.{get_or-take, get_or-drop, length-take-le, take-length}
-use borrow.Author.Tests.{ltb-true, leb-true, eqb-true, eq-eqb, ne_eqb}
+use borrow.Author.Tests.{ltb-true, leb-true, eqb-true, ne_eqb}
 use Rattle.book.specs.declared.Counts.{Counts}
 use Rattle.book.proofs.Limits.{both}
 use Rattle.walk.specs.Walks.{all}
@@ -21,18 +21,17 @@ each test [] h k l = absurd (omega arith)
 each test (n ∷ rest) h zero l = (both (test n) (all (map test rest)) h).0
 each test (n ∷ rest) h (suc k) l = each test rest (both (test n) (all (map test rest)) h).1 k (omega arith)
 
+within_at : (most : ℕ) (numbers : List ℕ) → all_within most numbers ≡ true → (k : ℕ) → k < length numbers → get_or numbers k 0 ≤ most
+within_at most numbers h k l = leb-true _ most (each (λ n. leb n most) numbers h k l)
+
 -- a part up to the end is all that is left
 pub rest_whole : (k : ℕ) (list : List ℕ) → take (length list - k) (drop k list) ≡ drop k list
 rest_whole k list = ap (λ (n : ℕ). take n (drop k list)) (sym (length-drop k list)) ∙ take-length (drop k list)
 
--- a table of another length is not good; of the right length, it is where its two parts are within their limits
+-- a table of another length is not good
 pub other_length : (counts : Counts) (table : List ℕ) → (length table ≡ counts.links + counts.lines → ⊥) → table_good counts table ≡ false
 unfolding table_good
 other_length counts table h = rw (ne_eqb (length table) (counts.links + counts.lines) h)
-
-pub right_length : (counts : Counts) (table : List ℕ) → length table ≡ counts.links + counts.lines → table_good counts table ≡ (all_within most_metres (take counts.links table) && all_within most_won (drop counts.links table))
-unfolding table_good
-right_length counts table h = rw (eq-eqb (length table) (counts.links + counts.lines) h)
 
 pub record GoodTable (counts : Counts) (table : List ℕ) : Type 0 where
   pub size : length table ≡ counts.links + counts.lines
@@ -42,13 +41,13 @@ pub record GoodTable (counts : Counts) (table : List ℕ) : Type 0 where
 pub good_table : (counts : Counts) (table : List ℕ) → table_good counts table ≡ true → GoodTable counts table
 unfolding table_good
 good_table counts table h =
-    let (sized, rest) = both (eqb (length table) (counts.links + counts.lines)) (all_within most_metres (take counts.links table) && all_within most_won (drop counts.links table)) h in
-    let (near, cheap) = both (all_within most_metres (take counts.links table)) (all_within most_won (drop counts.links table)) rest in
+    let (sized, rest) = both _ _ h in
+    let (near, cheap) = both _ _ rest in
     let size = eqb-true _ _ sized in
     record {
       size = size;
-      metres = λ l i. omega (arith, get_or-take counts.links table l 0 i, leb-true (get_or (take counts.links table) l 0) most_metres (each (λ n. leb n most_metres) (take counts.links table) near l (omega (arith, length-take-le counts.links table (omega arith)))));
-      basic = λ k i. omega (arith, get_or-drop counts.links table k 0, leb-true (get_or (drop counts.links table) k 0) most_won (each (λ n. leb n most_won) (drop counts.links table) cheap k (omega (arith, length-drop counts.links table))));
+      metres = λ l i. omega (arith, get_or-take counts.links table l 0 i, within_at most_metres (take counts.links table) near l (omega (arith, length-take-le counts.links table (omega arith))));
+      basic = λ k i. omega (arith, get_or-drop counts.links table k 0, within_at most_won (drop counts.links table) cheap k (omega (arith, length-drop counts.links table)));
     }
 
 -- a link's metres, and the basic fare of a line

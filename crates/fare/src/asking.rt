@@ -10,7 +10,7 @@ use super::{FareFigures, Fared, Fares, Won};
 use book::NodeNumber;
 use search::{CheckedBook, Labels, ROUTE_ROOM, Refusal, check, route};
 
-// Tests 15 and 17 of a walk that was found; only then is a link of it written.
+// Tests 15 and 17 of a walk that was found; only then is a link of it written. At most 65,535 links are given, so their count is held by 16 bits.
 fn fare_found(
     book: CheckedBook<'_>,
     cost: u32,

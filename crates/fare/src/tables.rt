@@ -22,7 +22,7 @@ fn all_within(numbers: &[u32], most: u32) -> bool
 }
 
 // The length is tested by a difference, since a sum of any two counts may not be held.
-#[tactic(auto, using(crate::proofs::GoodFares::other_length, crate::proofs::GoodFares::right_length, crate::proofs::GoodFares::rest_whole))]
+#[tactic(auto, using(crate::proofs::GoodFares::rest_whole), unfolding(crate::specs::Fares::table_good))]
 fn table_good(counts: Counts, table: &[u32]) -> bool
     ensures { result ≡ table_good counts table.now }
 {
@@ -37,6 +37,7 @@ fn table_good(counts: Counts, table: &[u32]) -> bool
     all_within(&table[..links], MOST_METRES) & all_within(&table[links..], MOST_WON)
 }
 
+// Numbers are compared, not amounts: a limit is one for the table's numbers and for the terms.
 #[tactic(auto, unfolding(crate::specs::Fares::terms_good))]
 fn terms_good(terms: Terms) -> bool
     ensures { result ≡ terms_good terms }

@@ -6,11 +6,11 @@ ghost use Rattle.search.specs.steps.Trails.{Trail, LinkTrail, Traced, Written};
 use book::{LinkNumber, TurnNumber};
 use walk::{START_BACK, Viewed};
 
-// Writes the walk that ends with this turn, of this many links, at the front of the route.
-fn read_back(view: Viewed<'_>, back: &[u16], turn: TurnNumber, links: u16, route: &mut [u16])
-    requires sized { length back.now ≡ view.book.counts.turns }
-    requires traced { Traced (Trail (view_in view) back.now turn.0) links (length route.old) }
-    ensures { Written (Trail (view_in view.entry) back.now turn.0) route.old route.new }
+// Writes the walk that ends with this turn, of this many links, at the front of the route; the view is passed by reference, since each link takes a frame.
+fn read_back(view: &Viewed<'_>, back: &[u16], turn: TurnNumber, links: u16, route: &mut [u16])
+    requires sized { length back.now ≡ view.now.book.counts.turns }
+    requires traced { Traced (Trail (view_in view.now) back.now turn.0) links (length route.old) }
+    ensures { Written (Trail (view_in view.now) back.now turn.0) route.old route.new }
 {
     let second = view.turn_second(turn);
     let at = links - 1;
@@ -42,5 +42,5 @@ pub fn trace(
         route[0] = link.0;
         return;
     }
-    read_back(view, turn_back, TurnNumber(turn), links, route);
+    read_back(&view, turn_back, TurnNumber(turn), links, route);
 }

@@ -8,8 +8,7 @@ use super::planning::plan;
 use super::routes::{RouteFound, print_route};
 use super::ways::way_of;
 use super::{Page, Way};
-use book::{CheckedBook, Refusal};
-use search::{ROUTE_ROOM, check};
+use search::{CheckedBook, ROUTE_ROOM, Refusal, check};
 
 // The plan's line, from the sheet's own route buffer.
 fn print_plan(book: CheckedBook<'_>, way: Way, page: &mut Page<'_>)

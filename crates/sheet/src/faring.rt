@@ -9,9 +9,9 @@ use super::planning::plan;
 use super::routes::{RouteFound, print_route};
 use super::ways::way_of;
 use super::{Page, Way};
-use book::{CheckedBook, Counts, Refusal};
+use book::Counts;
 use fare::{Fares, Metres, Terms, Won, fare_of, fares_good};
-use search::{ROUTE_ROOM, check, number_at};
+use search::{CheckedBook, ROUTE_ROOM, Refusal, check, number_at};
 
 // The fares as an input gives them: a table in bytes, and what stands beside it.
 #[derive(Clone, Copy)]

@@ -7,7 +7,7 @@ ghost use Rattle.sheet.specs.Sheet.{fields_of};
 ghost use Rattle.sheet.specs.steps.Storing.{Room, Put};
 
 use super::Page;
-use book::Refusal;
+use search::Refusal;
 use walk::Split;
 
 // What ends every line.

@@ -6,8 +6,8 @@ ghost use Rattle.search.specs.steps.Tables.{Sized};
 ghost use Rattle.sheet.specs.steps.Planning.{Found, Labelled};
 
 use super::Way;
-use book::{CheckedBook, MOST_LINKS, MOST_TURNS, Refusal};
-use search::{LabelsMut, Routed, route, search};
+use book::{MOST_LINKS, MOST_TURNS};
+use search::{CheckedBook, LabelsMut, Refusal, Routed, route, search};
 
 // A search, then the route.
 fn plan_search(

@@ -4,8 +4,8 @@ ghost use Rattle.sheet.specs.steps.Routes.{asked_fields};
 ghost use Rattle.sheet.specs.steps.Storing.{Room, Put};
 
 use super::Page;
-use book::{CheckedBook, NodeNumber};
-use search::{cost_of, split_in};
+use book::NodeNumber;
+use search::{CheckedBook, cost_of, split_in};
 
 // A route from its origin: its cost and its links.
 #[derive(Clone, Copy)]

@@ -13,13 +13,6 @@ impl Viewed<'_> {
         self.book.link_from(link)
     }
 
-    pub fn link_to(self, link: LinkNumber) -> NodeNumber
-        requires { link.0 < self.book.counts.links }
-        ensures { result.0 ≡ (view_in self.entry).to link.0 }
-    {
-        self.book.link_to(link)
-    }
-
     pub fn turn_first(self, turn: TurnNumber) -> LinkNumber
         requires { turn.0 < self.book.counts.turns }
         ensures value { result.0 ≡ (view_in self.entry).first turn.0 }

@@ -46,11 +46,11 @@ one_put links k next n more h e before put = rw (more, further_taken links k h, 
 pub all_put : {one two : Page} (links : List ℕ) (k : ℕ) → length links ≤ k → Put one (further (take k links)) two → Put one (further links) two
 all_put links k h put = rw (take_all k links h) at put
 
-pub line_one : (n : ℕ) → line (n ∷ []) ≡ decimal n ++ (newline ∷ [])
+line_one : (n : ℕ) → line (n ∷ []) ≡ decimal n ++ (newline ∷ [])
 unfolding line further
 line_one n = ap (λ (bytes : List ℕ). bytes ++ (newline ∷ [])) (append-nil (decimal n))
 
-pub line_two : (first second : ℕ) → line (first ∷ second ∷ []) ≡ decimal first ++ further (second ∷ []) ++ (newline ∷ [])
+line_two : (first second : ℕ) → line (first ∷ second ∷ []) ≡ decimal first ++ further (second ∷ []) ++ (newline ∷ [])
 unfolding line
 line_two first second = refl
 
@@ -68,7 +68,7 @@ line_route first second a b c d third rest =
     ∙ sym (append_assoc (decimal first ++ further (second ∷ []) ++ further between) (further (third ∷ [])) (further rest)))
 
 -- four fields after the first, one by one
-pub further_four : (a b c d : ℕ) → further (a ∷ b ∷ c ∷ d ∷ []) ≡ further (a ∷ []) ++ further (b ∷ []) ++ further (c ∷ []) ++ further (d ∷ [])
+further_four : (a b c d : ℕ) → further (a ∷ b ∷ c ∷ d ∷ []) ≡ further (a ∷ []) ++ further (b ∷ []) ++ further (c ∷ []) ++ further (d ∷ [])
 further_four a b c d =
     further_append (a ∷ b ∷ c ∷ []) (d ∷ [])
     ∙ ap (λ (bytes : List ℕ). bytes ++ further (d ∷ [])) (further_append (a ∷ b ∷ []) (c ∷ []) ∙ ap (λ (bytes : List ℕ). bytes ++ further (c ∷ [])) (further_append (a ∷ []) (b ∷ [])))

@@ -5,7 +5,7 @@ ghost use Rattle.sheet.specs.steps.Storing.{Room, Put};
 
 use super::Page;
 
-fn digit_of(n: usize) -> u8
+fn digit_of(n: u64) -> u8
     requires { n < 10 }
     ensures { result ≡ digit n }
 {
@@ -22,7 +22,7 @@ impl Page<'_> {
     }
 
     // All digits but the last, then the last.
-    pub fn put_decimal(&mut self, n: usize)
+    pub fn put_decimal(&mut self, n: u64)
         requires { Room self.old (decimal n) }
         ensures { Put self.old (decimal n) self.new }
     {

@@ -88,8 +88,7 @@ fn put_fares(
         terms: given.terms,
     };
     let fare = fare_of(book, fares, route.links);
-    // std has no conversion of 64 bits to a usize that cannot fail
-    page.put_number(fare.0 as usize);
+    page.put_number(fare.0);
 }
 
 // The fare sheet's own table, of one entry a link and one a line.
@@ -163,7 +162,9 @@ pub fn fare_sheet(input: &[u8], text: &mut [u8]) -> Option<usize>
         page.put_refusal(Refusal::TooShort);
         return Some(page.at);
     }
-    let middle = book_end(BEFORE_FARE_BOOK, long_at(input, 16) as usize, end);
+    // std has no conversion of 32 bits to a usize that cannot fail
+    let bytes = long_at(input, 16) as usize;
+    let middle = book_end(BEFORE_FARE_BOOK, bytes, end);
     let given = FareBytes {
         table: &input[middle..],
         terms: terms_of(input),

@@ -16,7 +16,7 @@ const NEWLINE: u8 = b'\n';
 impl Page<'_> {
     // A field that is not the first, after its blank.
     #[tactic(auto, using(crate::proofs::LineLaws::length_field, crate::proofs::LineLaws::field_put))]
-    fn put_field(&mut self, n: usize)
+    fn put_field(&mut self, n: u64)
         requires { Room self.old (further (n ∷ [])) }
         ensures { Put self.old (further (n ∷ [])) self.new }
     {
@@ -30,7 +30,7 @@ impl Page<'_> {
         ensures { Put self.old (further links.now) self.new }
     {
         for link in links {
-            self.put_field(usize::from(*link));
+            self.put_field(u64::from(*link));
         }
     }
 
@@ -39,14 +39,15 @@ impl Page<'_> {
         requires { Room self.old (line (number_of found ∷ place_of found ∷ [])) }
         ensures { Put self.old (line (number_of found ∷ place_of found ∷ [])) self.new }
     {
-        self.put_decimal(usize::from(found.number()));
-        self.put_field(found.place());
+        self.put_decimal(u64::from(found.number()));
+        // std has no conversion of a usize to 64 bits that cannot fail
+        self.put_field(found.place() as u64);
         self.put_byte(NEWLINE);
     }
 
     // A line of one number.
     #[tactic(auto, using(crate::proofs::LineLaws::length_one, crate::proofs::LineLaws::number_put))]
-    pub fn put_number(&mut self, n: usize)
+    pub fn put_number(&mut self, n: u64)
         requires { Room self.old (line (n ∷ [])) }
         ensures { Put self.old (line (n ∷ [])) self.new }
     {
@@ -54,16 +55,16 @@ impl Page<'_> {
         self.put_byte(NEWLINE);
     }
 
-    // The four figures, each after its blank; std has no conversion of 32 bits to a usize that cannot fail.
+    // The four figures, each after its blank.
     #[tactic(auto, using(crate::proofs::LineLaws::length_four, crate::proofs::LineLaws::split_put))]
     fn put_split(&mut self, split: Split)
         requires { Room self.old (further (figures_of split)) }
         ensures { Put self.old (further (figures_of split)) self.new }
     {
-        self.put_field(split.ride as usize);
-        self.put_field(split.wait as usize);
-        self.put_field(split.walk as usize);
-        self.put_field(split.extra as usize);
+        self.put_field(u64::from(split.ride));
+        self.put_field(u64::from(split.wait));
+        self.put_field(u64::from(split.walk));
+        self.put_field(u64::from(split.extra));
     }
 
     #[tactic(auto, using(crate::proofs::LineLaws::length_route))]
@@ -72,9 +73,10 @@ impl Page<'_> {
         ensures { Put self.old (line (fields_of cost split links.now)) self.new }
     {
         self.put_decimal(0);
-        self.put_field(cost as usize);
+        self.put_field(u64::from(cost));
         self.put_split(split);
-        self.put_field(links.len());
+        // as for a place
+        self.put_field(links.len() as u64);
         self.put_links(links);
         self.put_byte(NEWLINE);
     }

@@ -1,14 +1,14 @@
 -- The route that was found, with its fares, is the plan of the fare sheet, and the lines of it are the sheet of the input.
 use Prim.Native.Nat.{ℕ, ◌+◌, ◌-◌, ◌≤◌}
-use mathlib.Core.Path.{◌≡◌, sym, ap, ◌∙◌, subst}
+use mathlib.Core.Path.{◌≡◌, refl, sym, ap, ◌∙◌, subst}
 use mathlib.Core.Logic.{◌⊎◌, inl, inr}
 use mathlib.Core.List.{List, [], ◌∷◌}
 use native.Mathlib.Omega.{arith}
 use lib.ListN.{length, take, drop, length-drop, drop_of_length-le}
 use lib.Seq.{take_all}
 use Rattle.book.specs.declared.Counts.{Counts}
-use Rattle.std.specs.Prelude.{Ok, Some}
-use Rattle.book.specs.Check.{check_of}
+use Rattle.std.specs.Prelude.{Ok, Err, Some}
+use Rattle.book.specs.Check.{Checked, check_of}
 use Rattle.walk.specs.View.{view_of}
 use Rattle.walk.specs.Labels.{Route}
 use Rattle.search.proofs.RouteRoom.{room_serves, links_exist}
@@ -23,7 +23,11 @@ use Rattle.sheet.proofs.TestLaws.{tests_passed}
 use Rattle.sheet.proofs.StoreLaws.{whole}
 use Rattle.sheet.proofs.Longest.{longest_plan}
 use Rattle.sheet.proofs.LongestText.{longest_text_lem}
-use Rattle.sheet.proofs.Plans.{Led, led_fields, led_planned}
+use Rattle.book.specs.declared.Refusal.{Refusal}
+use Rattle.sheet.specs.Line.{line}
+use Rattle.sheet.specs.steps.Storing.{Put}
+use Rattle.sheet.proofs.FareText.{one_line_put}
+use Rattle.sheet.proofs.Plans.{refusal_fields, book_refused, Led, led_fields, led_planned}
 
 module _ (book : List ℕ) (r s : ℕ) (after : List ℕ) (cost count : ℕ) (led : Led book r s after cost count) (counts : Counts) (checked : check_of book ≡ Ok counts) where
   abbrev links : List ℕ
@@ -77,6 +81,10 @@ pub text_said : (input text left : List ℕ) {before after : Page} → LinesPut 
 text_said input text left lines start lent kept room =
     let (stands, end) = whole lines.put start (rw lent (omega (arith, longest_text_lem input lines.lines lines.told))) in
     printed room lines.lines lines.told (ap Some end) (kept ∙ rw lent at stands)
+
+-- what the check refuses is put as the plan
+pub check_told : (book : List ℕ) (r s : ℕ) (table : List ℕ) (terms : Terms) (answer : Checked) (found : Refusal) {before after : Page} → answer ≡ check_of book → answer ≡ Err found → Put before (line (refusal_fields found)) after → LinesPut (FarePlanned book r s table terms) before after
+check_told book r s table terms answer found told is put = one_line_put _ (refused _ _ (book_refused book r s found (sym told ∙ is)) refl) put
 
 -- the same plan under other names
 pub plan_moved : {book book-too : List ℕ} {r r-too s s-too : ℕ} {table table-too : List ℕ} {terms terms-too : Terms} (lines : List (List ℕ)) → book ≡ book-too → r ≡ r-too → s ≡ s-too → table ≡ table-too → terms ≡ terms-too

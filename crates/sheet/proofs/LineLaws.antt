@@ -7,6 +7,9 @@ use native.Mathlib.Numerals.{add-one}
 use lib.ListN.{length, get_or, take, drop, length-append, take-append-drop}
 use lib.Seq.{take-suc, take_all}
 use Rattle.sheet.specs.Line.{blank, newline, decimal, further, line}
+use Rattle.walk.specs.declared.Split.{Split}
+use Rattle.walk.specs.Walks.{figures_of}
+use Rattle.sheet.specs.Sheet.{fields_of}
 use Rattle.sheet.specs.declared.Page.{Page}
 use Rattle.sheet.specs.steps.Storing.{Put}
 use Rattle.sheet.proofs.StoreLaws.{then}
@@ -86,10 +89,10 @@ refusal_put first second a b c = rw (line_two first second) (then (then a b) c)
 pub split_put : {one two three four five : Page} (a b c d : ℕ) → Put one (further (a ∷ [])) two → Put two (further (b ∷ [])) three → Put three (further (c ∷ [])) four → Put four (further (d ∷ [])) five → Put one (further (a ∷ b ∷ c ∷ d ∷ [])) five
 split_put a b c d first second third fourth = rw (further_four a b c d) (then (then (then first second) third) fourth)
 
-pub route_put : {one two three four five six seven : Page} (first second a b c d third : ℕ) (rest : List ℕ)
-    → Put one (decimal first) two → Put two (further (second ∷ [])) three → Put three (further (a ∷ b ∷ c ∷ d ∷ [])) four → Put four (further (third ∷ [])) five → Put five (further rest) six → Put six (newline ∷ []) seven
-    → Put one (line (first ∷ second ∷ a ∷ b ∷ c ∷ d ∷ third ∷ rest)) seven
-route_put first second a b c d third rest e f g h i j = rw (line_route first second a b c d third rest) (then (then (then (then (then e f) g) h) i) j)
+pub route_put : {one two three four five six seven : Page} (cost : ℕ) (split : Split) (links : List ℕ)
+    → Put one (decimal 0) two → Put two (further (cost ∷ [])) three → Put three (further (figures_of split)) four → Put four (further (length links ∷ [])) five → Put five (further links) six → Put six (newline ∷ []) seven
+    → Put one (line (fields_of cost split links)) seven
+route_put cost split links a b c d e f = rw (line_route 0 cost split.ride split.wait split.walk split.extra (length links) links) (then (then (then (then (then a b) c) d) e) f)
 
 -- the same of lengths
 pub length_field : (n : ℕ) → length (further (n ∷ [])) ≡ length (decimal n) + 1
@@ -105,16 +108,16 @@ length_two first second =
 pub length_four : (a b c d : ℕ) → length (further (a ∷ b ∷ c ∷ d ∷ [])) ≡ length (further (a ∷ [])) + length (further (b ∷ [])) + length (further (c ∷ [])) + length (further (d ∷ []))
 length_four a b c d = omega (arith, further_length (a ∷ b ∷ c ∷ []) (d ∷ []), further_length (a ∷ b ∷ []) (c ∷ []), further_length (a ∷ []) (b ∷ []))
 
-pub length_route : (first second a b c d third : ℕ) (rest : List ℕ)
-    → length (line (first ∷ second ∷ a ∷ b ∷ c ∷ d ∷ third ∷ rest)) ≡ length (decimal first) + length (further (second ∷ [])) + length (further (a ∷ b ∷ c ∷ d ∷ [])) + length (further (third ∷ [])) + length (further rest) + 1
-length_route first second a b c d third rest =
-    let between : List ℕ = a ∷ b ∷ c ∷ d ∷ [] in
+pub length_route : (cost : ℕ) (split : Split) (links : List ℕ)
+    → length (line (fields_of cost split links)) ≡ length (decimal 0) + length (further (cost ∷ [])) + length (further (figures_of split)) + length (further (length links ∷ [])) + length (further links) + 1
+length_route cost split links =
+    let figures : List ℕ = figures_of split in
     rw (
-      line_route first second a b c d third rest,
-      length-append (decimal first ++ further (second ∷ []) ++ further between ++ further (third ∷ []) ++ further rest) (newline ∷ []),
-      length-append (decimal first ++ further (second ∷ []) ++ further between ++ further (third ∷ [])) (further rest),
-      length-append (decimal first ++ further (second ∷ []) ++ further between) (further (third ∷ [])),
-      length-append (decimal first ++ further (second ∷ [])) (further between),
-      length-append (decimal first) (further (second ∷ [])),
+      line_route 0 cost split.ride split.wait split.walk split.extra (length links) links,
+      length-append (decimal 0 ++ further (cost ∷ []) ++ further figures ++ further (length links ∷ []) ++ further links) (newline ∷ []),
+      length-append (decimal 0 ++ further (cost ∷ []) ++ further figures ++ further (length links ∷ [])) (further links),
+      length-append (decimal 0 ++ further (cost ∷ []) ++ further figures) (further (length links ∷ [])),
+      length-append (decimal 0 ++ further (cost ∷ [])) (further figures),
+      length-append (decimal 0) (further (cost ∷ [])),
     )
     refl

@@ -64,7 +64,7 @@ module _ (book : List ℕ) (r s : ℕ) (counts : Counts) (checked : check_of boo
       let figure = further_below 8 (cost_of (view_of book counts) links) (omega arith) in
       let count = further_below 3 (length links) (omega arith) in
       let four = split_below split (omega (arith, adds_up (view_of book counts) links)) in
-      omega (arith, length_route 0 (cost_of (view_of book counts) links) split.ride split.wait split.walk split.extra (length links) links, links_room)
+      omega (arith, length_route (cost_of (view_of book counts) links) split links, links_room)
 
 pub refusal_line : (number place : ℕ) → number ≤ 17 → place ≤ 4096 → length (line (number ∷ place ∷ [])) ≤ longest_line
 refusal_line number place n p = omega (arith, length_two number place, length_below 1 number (omega arith), further_below 3 place (omega arith))

@@ -24,7 +24,9 @@ use Rattle.sheet.specs.steps.Routes.{asked_fields}
 use Rattle.sheet.specs.declared.Page.{Page}
 use Rattle.sheet.specs.steps.Storing.{Put}
 use Rattle.sheet.proofs.StoreLaws.{whole}
-use Rattle.sheet.proofs.Longest.{longest_line_lem}
+use Rattle.sheet.proofs.Longest.{longest_plan, longest_line_lem}
+use Rattle.sheet.specs.steps.Asking.{LinePut}
+use Rattle.book.specs.Check.{Checked}
 use Rattle.book.specs.declared.Refusal.TheVariants.{NoWalk}
 use Rattle.search.specs.Route.{routed, RouteAnswer}
 
@@ -84,3 +86,10 @@ pub line_said : (input text left : List ℕ) {fields : List ℕ} {before after :
 line_said input text left {fields} put start lent kept room says =
     let (stands, end) = whole put start (rw lent (omega (arith, longest_line_lem input fields says))) in
     printed room fields says (ap Some end) (kept ∙ rw lent at stands)
+
+-- what the check refuses has its line, and is put as the plan
+pub check_line : (book : List ℕ) (answer : Checked) (found : Refusal) → answer ≡ check_of book → answer ≡ Err found → length (line (refusal_fields found)) ≤ longest_line
+check_line book answer found told is = longest_plan book 0 0 _ (book_refused book 0 0 found (sym told ∙ is))
+
+pub check_put : (book : List ℕ) (r s : ℕ) (answer : Checked) (found : Refusal) {before after : Page} → answer ≡ check_of book → answer ≡ Err found → Put before (line (refusal_fields found)) after → LinePut book r s before after
+check_put book r s answer found told is put = record { fields = _; planned = book_refused book r s found (sym told ∙ is); put = put }

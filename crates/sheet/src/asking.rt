@@ -30,6 +30,7 @@ fn print_plan(book: CheckedBook<'_>, way: Way, page: &mut Page<'_>)
 }
 
 // The book's own number comes before 10.
+#[tactic(auto, using(crate::proofs::Plans::check_line, crate::proofs::Plans::check_put))]
 fn print_book(book: &[u8], way: Way, page: &mut Page<'_>)
     requires { page.old.at + longest_line ≤ length page.old.text.now }
     ensures { LinePut book.now way.origin.0 way.destination.0 page.old page.new }
@@ -41,6 +42,7 @@ fn print_book(book: &[u8], way: Way, page: &mut Page<'_>)
 }
 
 // Document 01, the route printer: exactly one line for every input, or none where the text is shorter than the longest.
+#[tactic(auto, using(crate::proofs::Longest::refusal_line))]
 pub fn sheet(input: &[u8], text: &mut [u8]) -> Option<usize>
     ensures { Sheet input.now text.old result text.new }
 {

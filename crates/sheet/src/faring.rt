@@ -65,6 +65,7 @@ fn read_fares(counts: Counts, given: FareBytes<'_>, table: &mut [u32]) -> bool
     fares_good(counts, fares)
 }
 
+#[tactic(auto, using(crate::proofs::Longest::refusal_line))]
 fn put_fares(
     book: CheckedBook<'_>,
     route: RouteFound<'_>,
@@ -128,6 +129,7 @@ fn print_fare_plan(book: CheckedBook<'_>, way: Way, given: FareBytes<'_>, page: 
 }
 
 // The book's own number comes before 10, and 17 after 14.
+#[tactic(auto, using(crate::proofs::Plans::check_line, crate::proofs::FarePlans::check_told))]
 fn print_fare_book(book: &[u8], way: Way, given: FareBytes<'_>, page: &mut Page<'_>)
     requires { page.old.at + longest_text ≤ length page.old.text.now }
     ensures { LinesPut (FarePlanned book.now way.origin.0 way.destination.0 given.entry.table.now given.entry.terms) page.old page.new }
@@ -150,6 +152,7 @@ fn book_end(from: usize, bytes: usize, end: usize) -> usize
 }
 
 // The fare printer: one line for every input, and where it is a route's a second with the fare; none where the text is shorter than the longest.
+#[tactic(auto, using(crate::proofs::Longest::refusal_line))]
 pub fn fare_sheet(input: &[u8], text: &mut [u8]) -> Option<usize>
     ensures { FareSheet input.now text.old result text.new }
 {

@@ -2,12 +2,8 @@
 use Rattle.std.proofs.Common.{rules, arith, refl}
 use Rattle.std.proofs.lemmas.List.{take_rest}
 use Rattle.sheet.specs.Sheet.{before_book, short, asked}
-use Rattle.sheet.proofs.Longest.{refusal_line}
 use Rattle.sheet.proofs.Plans.{line_said}
 use Rattle.sheet.proofs.asking.sheet.Goals as goal
-
-pub put_refusal-requires : goal.put_refusal-requires
-put_refusal-requires c = omega (arith, refusal_line 1 0 (omega arith) (omega arith), c.if-text-lt-LONGEST_LINE.false)
 
 pub returns-then-input-lt-BEFORE_BOOK : goal.returns-then-input-lt-BEFORE_BOOK
 returns-then-input-lt-BEFORE_BOOK c = line_said _ _ _ c.put_refusal.ensures refl refl (search rules) c.if-text-lt-LONGEST_LINE.false (short c.if-input-lt-BEFORE_BOOK.true refl)

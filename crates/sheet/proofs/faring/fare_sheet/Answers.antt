@@ -1,13 +1,9 @@
 -- Each end of the code is one case of the contract.
 use Rattle.std.proofs.Common.{rules, arith, ℕ, ◌+◌, take, drop, refl, ap, ◌∙◌}
 use Rattle.sheet.specs.FareSheet.{before_fare_book, short, asked}
-use Rattle.sheet.proofs.Longest.{refusal_line}
 use Rattle.sheet.proofs.FareText.{one_line_put, lines_told}
 use Rattle.sheet.proofs.FarePlans.{book_part, table_part, text_said, plan_moved}
 use Rattle.sheet.proofs.faring.fare_sheet.Goals as goal
-
-pub put_refusal-requires : goal.put_refusal-requires
-put_refusal-requires c = omega (arith, refusal_line 1 0 (omega arith) (omega arith), c.if-text-lt-LONGEST_TEXT.false)
 
 pub returns-then-end-lt-BEFORE_FARE_BOOK : goal.returns-then-end-lt-BEFORE_FARE_BOOK
 returns-then-end-lt-BEFORE_FARE_BOOK c = text_said _ _ _ (one_line_put _ (short c.if-end-lt-BEFORE_FARE_BOOK.true refl) c.put_refusal.ensures) refl refl (search rules) c.if-text-lt-LONGEST_TEXT.false

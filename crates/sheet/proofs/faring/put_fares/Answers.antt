@@ -2,14 +2,10 @@
 use Rattle.std.proofs.Common.{arith, refl, sym, ◌∙◌}
 use borrow.Author.Tests.{not-true, not-false}
 use Rattle.sheet.specs.steps.Faring.{bad_fares}
-use Rattle.sheet.proofs.Longest.{refusal_line}
 use Rattle.sheet.proofs.FareTables.{read_good, fare_told}
 use Rattle.sheet.proofs.FareText.{one_line_put, two_lines_put}
 use Rattle.sheet.proofs.LongestText.{fare_fits}
 use Rattle.sheet.proofs.faring.put_fares.Goals as goal
-
-pub put_refusal-requires : goal.put_refusal-requires
-put_refusal-requires c = omega (arith, refusal_line 17 0 (omega arith) (omega arith))
 
 pub returns-then-not-read_fares-clause-lines_put : goal.returns-then-not-read_fares-clause-lines_put
 returns-then-not-read_fares-clause-lines_put c = one_line_put _ (bad_fares (sym c.read_fares.ensures.tells ∙ c.if-not-read_fares.true) refl) c.put_refusal.ensures

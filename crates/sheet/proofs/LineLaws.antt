@@ -1,17 +1,18 @@
 -- Fields are written one after the other: the bytes of a line are those of its fields in turn, and the newline.
-use Prim.Native.Nat.{ℕ, ◌+◌, ◌≤◌, ◌<◌}
+use Prim.Native.Nat.{ℕ, ◌/◌, ◌%◌, ◌+◌, ◌≤◌, ◌<◌}
 use mathlib.Core.Path.{◌≡◌, refl, sym, ap, ◌∙◌}
 use mathlib.Core.List.{List, [], ◌∷◌, ◌++◌, append-nil, append_assoc}
 use native.Mathlib.Omega.{arith}
 use native.Mathlib.Numerals.{add-one}
 use lib.ListN.{length, get_or, take, drop, length-append, take-append-drop}
 use lib.Seq.{take-suc, take_all}
-use Rattle.sheet.specs.Line.{blank, newline, decimal, further, line}
+use Rattle.sheet.specs.Line.{digit, blank, newline, decimal, further, line}
 use Rattle.walk.specs.declared.Split.{Split}
 use Rattle.walk.specs.Walks.{figures_of}
 use Rattle.sheet.specs.Sheet.{fields_of}
 use Rattle.sheet.specs.declared.Page.{Page}
 use Rattle.sheet.specs.steps.Storing.{Put}
+use Rattle.sheet.proofs.DigitLaws.{decimal_small, decimal_more}
 use Rattle.sheet.proofs.StoreLaws.{then}
 
 pub further_one : (n : ℕ) → further (n ∷ []) ≡ blank ∷ decimal n
@@ -76,7 +77,13 @@ further_four a b c d =
     further_append (a ∷ b ∷ c ∷ []) (d ∷ [])
     ∙ ap (λ (bytes : List ℕ). bytes ++ further (d ∷ [])) (further_append (a ∷ b ∷ []) (c ∷ []) ∙ ap (λ (bytes : List ℕ). bytes ++ further (c ∷ [])) (further_append (a ∷ []) (b ∷ [])))
 
--- what is put field by field is put as one run
+-- what is put part by part is put as one run
+pub small_put : {one two : Page} (n byte : ℕ) → n < 10 → byte ≡ digit n → Put one (byte ∷ []) two → Put one (decimal n) two
+small_put n byte h e a = rw (decimal_small n h, ← e) a
+
+pub more_put : {one two three : Page} (n byte : ℕ) → 10 ≤ n → byte ≡ digit (n % 10) → Put one (decimal (n / 10)) two → Put two (byte ∷ []) three → Put one (decimal n) three
+more_put n byte h e a b = rw (decimal_more n h, ← e) (then a b)
+
 pub field_put : {one two three : Page} (n : ℕ) → Put one (blank ∷ []) two → Put two (decimal n) three → Put one (further (n ∷ [])) three
 field_put n a b = rw (further_one n) (then a b)
 

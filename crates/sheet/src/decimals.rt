@@ -22,6 +22,7 @@ impl Page<'_> {
     }
 
     // All digits but the last, then the last.
+    #[tactic(auto, using(crate::proofs::DigitLaws::length_small, crate::proofs::DigitLaws::length_more, crate::proofs::LineLaws::small_put, crate::proofs::LineLaws::more_put))]
     pub fn put_decimal(&mut self, n: u64)
         requires { Room self.old (decimal n) }
         ensures { Put self.old (decimal n) self.new }

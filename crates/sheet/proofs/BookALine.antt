@@ -8,7 +8,7 @@ use Rattle.book.specs.Number.{number_at}
 use Rattle.book.specs.BookA.{book_a, counts_a}
 use Rattle.book.proofs.BookA.{book_a_good}
 use Rattle.walk.specs.View.{view_of}
-use Rattle.walk.specs.RefusedSplits.{split, loop_a}
+use Rattle.walk.specs.RefusedSplits.{loop_a}
 use Rattle.walk.proofs.SplitsRefused.{loop_splits}
 use Rattle.search.specs.Tests.{node_test, both_nodes}
 use Rattle.search.proofs.RouteAccounted.{route_costed}

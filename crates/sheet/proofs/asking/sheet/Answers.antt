@@ -1,5 +1,5 @@
 -- Each end of the code is one case of the contract.
-use Rattle.std.proofs.Common.{rules, arith, refl}
+use Rattle.std.proofs.Common.{rules, refl}
 use Rattle.std.proofs.lemmas.List.{take_rest}
 use Rattle.sheet.specs.Sheet.{before_book, short, asked}
 use Rattle.sheet.proofs.Plans.{line_said}

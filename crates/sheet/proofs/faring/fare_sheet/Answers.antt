@@ -1,5 +1,5 @@
 -- Each end of the code is one case of the contract.
-use Rattle.std.proofs.Common.{rules, arith, ℕ, ◌+◌, take, drop, refl, ap, ◌∙◌}
+use Rattle.std.proofs.Common.{rules, ℕ, ◌+◌, take, drop, refl, ap, ◌∙◌}
 use Rattle.sheet.specs.FareSheet.{before_fare_book, short, asked}
 use Rattle.sheet.proofs.FareText.{one_line_put, lines_told}
 use Rattle.sheet.proofs.FarePlans.{book_part, table_part, text_said, plan_moved}

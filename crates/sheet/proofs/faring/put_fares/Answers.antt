@@ -1,6 +1,5 @@
 -- The fares that were read are good, or 17 is printed; a fare has its room after the longest line.
 use Rattle.std.proofs.Common.{arith, refl, sym, ◌∙◌}
-use borrow.Author.Tests.{not-true, not-false}
 use Rattle.sheet.specs.steps.Faring.{bad_fares}
 use Rattle.sheet.proofs.FareTables.{read_good, fare_told}
 use Rattle.sheet.proofs.FareText.{one_line_put, two_lines_put}

@@ -1,5 +1,5 @@
 -- The entries passed stand at the front of the table.
-use Rattle.std.proofs.Common.{rules, arith, refl, ◌∙◌}
+use Rattle.std.proofs.Common.{rules, refl, ◌∙◌}
 use lib.ListN.{length-set}
 use Rattle.walk.specs.View.{up_to}
 use Rattle.walk.proofs.Filling.{one_filled, all_filled}

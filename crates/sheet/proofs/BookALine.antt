@@ -10,14 +10,14 @@ use Rattle.book.proofs.BookA.{book_a_good}
 use Rattle.walk.specs.View.{view_of}
 use Rattle.walk.specs.RefusedSplits.{loop_a}
 use Rattle.walk.proofs.SplitsRefused.{loop_splits}
+use Rattle.walk.specs.Given.{Answer}
+use Rattle.walk.specs.steps.Splits.{split_in}
 use Rattle.search.specs.Tests.{node_test, both_nodes}
 use Rattle.search.proofs.RouteAccounted.{route_costed}
 use Rattle.search.proofs.RoutesRefused.{route_to_three}
 use Rattle.sheet.specs.Line.{decimal_in, decimal, further, line}
 use Rattle.sheet.specs.Sheet.{fields_of, route_fields, Planned, done, Says, asked}
 use Rattle.sheet.specs.RefusedLines.{input_a, line_a}
-use Rattle.walk.specs.Given.{Answer}
-use Rattle.walk.specs.steps.Splits.{split_in}
 
 abbrev pub fields_a : List ℕ
 fields_a = 0 ∷ 342 ∷ 230 ∷ 3 ∷ 9 ∷ 100 ∷ 5 ∷ loop_a

@@ -3,8 +3,8 @@ use Prim.Native.Nat.{ℕ}
 use mathlib.Core.Path.{◌≡◌, sym, ◌∙◌, subst}
 use mathlib.Core.List.{List}
 use native.Mathlib.Omega.{arith}
-use Rattle.book.specs.declared.Counts.{Counts}
 use Rattle.std.specs.Prelude.{Ok, Option}
+use Rattle.book.specs.declared.Counts.{Counts}
 use Rattle.walk.specs.View.{view_of, walks_of}
 use Rattle.walk.specs.Labels.{Route}
 use Rattle.walk.proofs.theory.Laws.{clash}

@@ -6,14 +6,15 @@ use mathlib.Core.List.{List, [], ◌∷◌}
 use native.Mathlib.Omega.{arith}
 use lib.ListN.{length, take, drop, length-drop, drop_of_length-le}
 use lib.Seq.{take_all}
-use Rattle.book.specs.declared.Counts.{Counts}
 use Rattle.std.specs.Prelude.{Ok, Err, Some}
+use Rattle.std.proofs.lemmas.List.{take_rest}
+use Rattle.book.specs.declared.Counts.{Counts}
 use Rattle.book.specs.Check.{Checked, check_of}
+use Rattle.book.specs.declared.Refusal.{Refusal}
 use Rattle.walk.specs.View.{view_of}
 use Rattle.walk.specs.Labels.{Route}
 use Rattle.search.proofs.RouteRoom.{room_serves, links_exist}
 use Rattle.fare.specs.declared.Terms.{Terms}
-use Rattle.std.proofs.lemmas.List.{take_rest}
 use Rattle.sheet.specs.declared.Page.{Page}
 use Rattle.sheet.specs.Sheet.{route_fields, Planned, done as planned}
 use Rattle.sheet.specs.FareSheet.{FarePlanned, refused, bad_fares, done, FareSays, longest_text, FareSheet, printed}
@@ -23,7 +24,6 @@ use Rattle.sheet.proofs.TestLaws.{tests_passed}
 use Rattle.sheet.proofs.StoreLaws.{whole}
 use Rattle.sheet.proofs.Longest.{longest_plan}
 use Rattle.sheet.proofs.LongestText.{longest_text_lem}
-use Rattle.book.specs.declared.Refusal.{Refusal}
 use Rattle.sheet.specs.Line.{line}
 use Rattle.sheet.specs.steps.Storing.{Put}
 use Rattle.sheet.proofs.FareText.{one_line_put}

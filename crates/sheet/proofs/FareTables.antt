@@ -7,8 +7,9 @@ use native.Mathlib.Omega.{arith}
 use lib.Dec.{eqb}
 use lib.ListN.{length}
 use borrow.Author.Tests.{eqb-true, eqb-false, eq-eqb}
-use Rattle.book.specs.declared.Counts.{Counts}
 use Rattle.std.specs.Prelude.{Ok}
+use Rattle.book.specs.declared.Counts.{Counts}
+use Rattle.book.specs.Header.{most_lines, most_links}
 use Rattle.book.specs.Check.{check_of}
 use Rattle.book.proofs.Limits.{both}
 use Rattle.book.proofs.GoodBook.{good_book}
@@ -62,7 +63,7 @@ module _ (counts : Counts) (bytes : List ℕ) (terms : Terms) where
       other_bytes (λ e. omega (arith, few.links, few.lines))
 
 -- a table of one entry a link and one a line of a good book
-pub table_room : (book : List ℕ) (counts : Counts) → check_of book ≡ Ok counts → counts.links + counts.lines ≤ 2304
+pub table_room : (book : List ℕ) (counts : Counts) → check_of book ≡ Ok counts → counts.links + counts.lines ≤ most_links + most_lines
 table_room book counts checked =
     let few = (good_book book counts checked).limited in
     omega (arith, few.links, few.lines)

@@ -4,9 +4,9 @@ use mathlib.Core.Path.{◌≡◌, refl, subst}
 use mathlib.Core.List.{List}
 use native.Mathlib.Omega.{arith}
 use lib.ListN.{length}
+use Rattle.std.specs.Prelude.{Ok, Err}
 use Rattle.book.specs.declared.Counts.{Counts}
 use Rattle.book.specs.declared.Refusal.{Refusal}
-use Rattle.std.specs.Prelude.{Ok, Err}
 use Rattle.book.specs.Check.{Checked, check_of}
 use Rattle.walk.specs.View.{view_of}
 use Rattle.walk.specs.Labels.{Table, TrueLabels}

@@ -6,9 +6,9 @@ use native.Mathlib.Omega.{arith}
 use native.Mathlib.Numerals.{add-one}
 use lib.ListN.{length, get_or, take, drop, length-append, take-append-drop}
 use lib.Seq.{take-suc, take_all}
-use Rattle.sheet.specs.Line.{digit, blank, newline, decimal, further, line}
 use Rattle.walk.specs.declared.Split.{Split}
 use Rattle.walk.specs.Walks.{figures_of}
+use Rattle.sheet.specs.Line.{digit, blank, newline, decimal, further, line}
 use Rattle.sheet.specs.Sheet.{fields_of}
 use Rattle.sheet.specs.declared.Page.{Page}
 use Rattle.sheet.specs.steps.Storing.{Put}

@@ -1,11 +1,11 @@
 -- The right bytes are what book A's route and fare say, and others are none, since the contracts allow one outcome only.
-use Rattle.std.specs.Prelude.{Some, Option}
 use Prim.Native.Nat.{ℕ}
 use mathlib.Core.Path.{◌≡◌, refl, ap₂}
 use mathlib.Core.List.{List, [], ◌∷◌, ◌++◌, map}
 use mathlib.Core.Bool.{true}
 use native.Mathlib.Omega.{arith}
 use lib.ListN.{length}
+use Rattle.std.specs.Prelude.{Some, Option}
 use Rattle.walk.specs.Walks.{all}
 use Rattle.walk.specs.Cases.{All}
 use Rattle.walk.specs.Labelled.{RightAlone}

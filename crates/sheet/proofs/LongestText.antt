@@ -6,8 +6,8 @@ use mathlib.Core.Bool.{Bool, true}
 use native.Mathlib.Omega.{arith}
 use lib.Dec.{ltb}
 use lib.ListN.{length, length-append}
-use Rattle.book.specs.declared.Counts.{Counts}
 use Rattle.std.specs.Prelude.{Ok}
+use Rattle.book.specs.declared.Counts.{Counts}
 use Rattle.book.specs.Check.{check_of}
 use Rattle.walk.specs.View.{view_of}
 use Rattle.walk.specs.Walks.{all}

@@ -5,10 +5,12 @@ use mathlib.Core.List.{List, [], ◌∷◌}
 use native.Mathlib.Omega.{arith}
 use lib.ListN.{length, take, drop, length-append}
 use lib.Seq.{take_at}
+use Rattle.std.specs.Prelude.{Ok, Err, Some}
 use Rattle.book.specs.declared.Counts.{Counts}
 use Rattle.book.specs.declared.Refusal.{Refusal}
-use Rattle.std.specs.Prelude.{Ok, Err, Some}
 use Rattle.book.specs.Check.{number_of, place_of, check_of}
+use Rattle.book.specs.Check.{Checked}
+use Rattle.book.specs.declared.Refusal.TheVariants.{NoWalk}
 use Rattle.walk.specs.View.{view_of}
 use Rattle.walk.specs.Walks.{cost_of}
 use Rattle.walk.specs.Labels.{Route}
@@ -17,6 +19,7 @@ use Rattle.walk.proofs.theory.Laws.{clash}
 use Rattle.search.specs.Tests.{both_nodes}
 use Rattle.search.proofs.RouteRoom.{node_leaves, same_figures}
 use Rattle.search.proofs.RouteAccounted.{route_costed}
+use Rattle.search.specs.Route.{routed, RouteAnswer}
 use Rattle.sheet.specs.Line.{line}
 use Rattle.sheet.specs.Sheet.{route_fields, fields_of, Planned, refused, no_walk, done, Says, longest_line, Sheet, printed}
 use Rattle.sheet.specs.steps.Planning.{Found, refused as found_refused, no_walk as found_none, done as found_route}
@@ -26,9 +29,6 @@ use Rattle.sheet.specs.steps.Storing.{Put}
 use Rattle.sheet.proofs.StoreLaws.{whole}
 use Rattle.sheet.proofs.Longest.{longest_plan, longest_line_lem}
 use Rattle.sheet.specs.steps.Asking.{LinePut}
-use Rattle.book.specs.Check.{Checked}
-use Rattle.book.specs.declared.Refusal.TheVariants.{NoWalk}
-use Rattle.search.specs.Route.{routed, RouteAnswer}
 
 -- the fields of a refusal
 abbrev pub refusal_fields : Refusal → List ℕ

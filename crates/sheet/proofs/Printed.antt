@@ -1,10 +1,10 @@
 -- What a sheet answers stands whole at the front of the text.
-use Rattle.std.specs.Prelude.{Some, None, Option}
 use Prim.Native.Nat.{ℕ, ◌≤◌}
 use mathlib.Core.Path.{◌≡◌, ap}
 use mathlib.Core.List.{List, ◌++◌}
 use native.Mathlib.Omega.{arith}
 use lib.ListN.{length, drop, length-append}
+use Rattle.std.specs.Prelude.{Some, None, Option}
 use Rattle.walk.proofs.theory.Laws.{clash}
 use Rattle.sheet.specs.Line.{line}
 use Rattle.sheet.specs.Sheet.{longest_line, Sheet, no_room, printed}

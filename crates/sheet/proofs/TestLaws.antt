@@ -6,9 +6,9 @@ use mathlib.Core.Bool.{Bool, true, false}
 use native.Mathlib.Omega.{arith}
 use lib.Dec.{ltb, leb, eqb}
 use lib.ListN.{length}
+use Rattle.std.specs.Prelude.{Ok, Err}
 use Rattle.book.specs.declared.Counts.{Counts}
 use Rattle.book.specs.declared.Refusal.{Refusal}
-use Rattle.std.specs.Prelude.{Ok, Err}
 use Rattle.book.specs.Header.{header_bytes, mark_good, version_good, counts_of, counts_good}
 use Rattle.book.specs.Tables.{book_end, line_table, link_table, turn_table, pair_table}
 use Rattle.book.specs.Entries.{line_good, link_good, turn_good, pair_good}

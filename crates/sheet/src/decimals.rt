@@ -9,6 +9,7 @@ fn digit_of(n: u64) -> u8
     requires { n < 10 }
     ensures { result ≡ digit n }
 {
+    // below 10, so all of it is kept
     b'0' + n as u8
 }
 

@@ -1,7 +1,7 @@
 // The fare sheet of an input: the book's check, then the plan, and after a route's line its fare.
 ghost use Rattle.std.specs.Prelude.{◌≡◌, ◌+◌, ◌*◌, ◌≤◌, length};
 ghost use Rattle.walk.specs.View.{up_to};
-ghost use Rattle.sheet.specs.FareSheet.{long_at, before_fare_book, terms_of, entry_bytes, FarePlanned, longest_text, FareSheet};
+ghost use Rattle.sheet.specs.FareSheet.{long_at, terms_of, entry_bytes, FarePlanned, longest_text, FareSheet};
 ghost use Rattle.sheet.specs.steps.Faring.{FaresRead, read_into, RouteToFare, FareTold, LinesPut, BookEnd};
 
 use super::figures::{BEFORE_FARE_BOOK, ENTRY_BYTES, LONGEST_TEXT, MOST_ENTRIES};
@@ -44,8 +44,8 @@ fn read_table(bytes: &[u8], table: &mut [u32])
     requires { length bytes.now ≡ entry_bytes * length table.old }
     ensures { table.new ≡ up_to (length table.old) (λ k. long_at bytes.now (entry_bytes * k)) }
 {
-    for entry in 0..table.len() {
-        table[entry] = long_at(bytes, ENTRY_BYTES * entry);
+    for (k, entry) in table.iter_mut().enumerate() {
+        *entry = long_at(bytes, ENTRY_BYTES * k);
     }
 }
 

@@ -2,12 +2,12 @@
 use Rattle.std.specs.Prelude.{ℕ, ◌≡◌, List, ◌++◌, length, drop, Ok, Err}
 use Rattle.book.specs.declared.Counts.{Counts}
 use Rattle.book.specs.declared.Refusal.{Refusal}
+use Rattle.book.specs.declared.Refusal.TheVariants.{NoWalk}
 use Rattle.walk.specs.View.{view_of}
 use Rattle.walk.specs.Walks.{cost_of}
 use Rattle.walk.specs.Labels.{Table, NodeWalk, Route}
 use Rattle.search.specs.Tests.{both_nodes}
 use Rattle.search.specs.Search.{Search, Searched}
-use Rattle.book.specs.declared.Refusal.TheVariants.{NoWalk}
 use Rattle.search.specs.Route.{routed, RouteAnswer}
 
 -- what is answered for the way from r to s, and left in the buffer that was lent for its links

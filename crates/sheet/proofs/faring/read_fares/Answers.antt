@@ -1,6 +1,6 @@
 -- A table of another length is not good, and one of the right length is good where its entries are.
-use Rattle.std.proofs.Common.{arith, ◌≡◌, ◌*◌, length, sym, ◌∙◌}
 use borrow.Author.Tests.{eq-eqb, ne_eqb}
+use Rattle.std.proofs.Common.{arith, ◌≡◌, ◌*◌, length, sym, ◌∙◌}
 use Rattle.sheet.specs.FareSheet.{entry_bytes}
 use Rattle.sheet.proofs.FareTables.{other_bytes, all_entries, whole_good}
 use Rattle.sheet.proofs.faring.read_fares.Goals as goal

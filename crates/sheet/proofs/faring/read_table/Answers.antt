@@ -1,7 +1,7 @@
 -- The entries passed stand at the front of the table.
 use Rattle.std.proofs.Common.{rules, refl}
 use Rattle.walk.specs.View.{up_to}
-use Rattle.walk.proofs.Filling.{one_filled, all_filled}
+use Rattle.walk.proofs.Filling.{one_filled}
 use Rattle.sheet.proofs.faring.read_table.Goals as goal
 
 pub loop-k-init : goal.loop-k-init
@@ -10,6 +10,3 @@ loop-k-init c = refl
 
 pub loop-k-preserved : goal.loop-k-preserved
 loop-k-preserved c = one_filled _ _ _ (search rules) c.long_at.ensures c.loop-k.invariant
-
-pub returns : goal.returns
-returns c = all_filled _ _ _ _ c.loop-k.auto.table (search rules) c.loop-k.invariant

@@ -1,0 +1,2 @@
+pub mod BookBytes
+pub mod Tables

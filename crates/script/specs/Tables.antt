@@ -1,8 +1,20 @@
 -- A table of label figures on the desk, and how much of a column a `lend` named.
-use Rattle.std.specs.Prelude.{ℕ, ◌<◌, Option, slice_set}
+use Rattle.std.specs.Prelude.{ℕ, ◌<◌, Option, None, slice_set, replicate}
 use Rattle.script.specs.declared.figures.Column.{Column}
 use Rattle.script.specs.declared.figures.Column.TheVariants.{Cost, Links, Back}
 use Rattle.script.specs.declared.figures.Table.{Table}
+use Rattle.script.specs.declared.figures.TheConstants.{LENT_ROOM}
+
+-- a table of noughts, of which no `lend` named a column
+abbrev pub no_labels : Table
+no_labels = record {
+  cost = replicate LENT_ROOM 0;
+  links = replicate LENT_ROOM 0;
+  back = replicate LENT_ROOM 0;
+  cost_lent = None;
+  links_lent = None;
+  back_lent = None;
+}
 
 -- how much of a column is lent, where a `lend` named it
 abbrev pub named_of : Table → Column → Option ℕ

@@ -1,6 +1,6 @@
 // The day book on the desk.
 ghost use Rattle.std.specs.Prelude.{◌≡◌, ◌+◌, ◌-◌, ◌*◌, ◌/◌, ◌≤◌, ◌↔◌, [], length, take, drop, min, IsOk, OnErr, OnOk, IsOkUnless};
-ghost use Rattle.script.specs.BookBytes.{bytes_in, byte_count, room_of, first_number};
+ghost use Rattle.script.specs.BookBytes.{bytes_in, byte_count, byte_length, laid, room_of, first_number, new_book};
 
 use super::figures::first_mut;
 use super::words::narrow;
@@ -53,6 +53,7 @@ impl DayBook {
 
     // Cut, or filled up with noughts.
     pub fn set_length(&mut self, length: usize)
+        ensures room { room_of self.new ≡ laid (min length BOOK_ROOM) (room_of self.old) }
         ensures bytes { bytes_in self.new ≡ take length (room_of self.old) }
         ensures count { byte_count self.new ≡ min length BOOK_ROOM }
     {
@@ -62,22 +63,28 @@ impl DayBook {
     }
 
     // These bytes and then noughts.
-    fn begin(&mut self, bytes: &[u8], length: usize) {
+    fn begin(&mut self, bytes: &[u8], length: usize)
+        ensures bytes { bytes_in self.new ≡ take length (laid (min (byte_length bytes.now) BOOK_ROOM) bytes.now) }
+        ensures count { byte_count self.new ≡ min length BOOK_ROOM }
+    {
         self.bytes.fill(0);
-        for (place, byte) in self.bytes.iter_mut().zip(bytes) {
-            *place = *byte;
-        }
+        let kept = bytes.len().min(BOOK_ROOM);
+        self.bytes[..kept].copy_from_slice(&bytes[..kept]);
         self.set_length(length);
     }
 
     // A book of noughts behind mark and version.
-    pub fn begin_new(&mut self, length: usize) {
+    pub fn begin_new(&mut self, length: usize)
+        ensures bytes { bytes_in self.new ≡ new_book length }
+        ensures count { byte_count self.new ≡ min length BOOK_ROOM }
+    {
         self.begin(MARK_AND_VERSION, length);
     }
 
     pub fn take(&mut self, bytes: &[u8]) -> Result<(), Fault>
         ensures taken { IsOk result ↔ (length bytes.now ≤ BOOK_ROOM) }
         ensures only { IsOkUnless result (Fault.FileLongerThan BOOK_ROOM) }
+        ensures ok { OnOk result (bytes_in self.new ≡ bytes.now) }
         ensures err { OnErr result (self.new ≡ self.old) }
     {
         if BOOK_ROOM < bytes.len() {

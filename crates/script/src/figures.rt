@@ -1,6 +1,6 @@
 // The label figures on the desk: a table for turns and one for links, and how much of each buffer is lent.
-ghost use Rattle.std.specs.Prelude.{◌≡◌, ◌<◌, ◌≤◌, ◌↔◌, ℕ, length, take, min, replicate, unwrap_or, None, IsOk, IfOk, OnErr, OnOk};
-ghost use Rattle.script.specs.Tables.{named_of, with_named, with_figure, FitsIn};
+ghost use Rattle.std.specs.Prelude.{◌≡◌, ◌<◌, ◌≤◌, ◌↔◌, ℕ, length, take, min, unwrap_or, IsOk, IfOk, OnErr, OnOk, IsOkUnless};
+ghost use Rattle.script.specs.Tables.{no_labels, named_of, with_named, with_figure, FitsIn};
 
 use super::writing::{Fault, Text};
 
@@ -22,6 +22,10 @@ pub enum Buffer {
 }
 
 impl TryFrom<&[u8]> for Buffer {
+    ghost use Rattle.script.specs.Questions.{NamesBuffer};
+
+    ghost try_from_gives = { λ name result. NamesBuffer name.now result };
+
     type Error = Fault;
 
     fn try_from(name: &[u8]) -> Result<Buffer, Fault> {
@@ -50,12 +54,7 @@ pub struct Table {
 
 impl Table {
     pub fn new() -> Table
-        ensures cost { result.cost ≡ replicate LENT_ROOM 0 }
-        ensures links { result.links ≡ replicate LENT_ROOM 0 }
-        ensures back { result.back ≡ replicate LENT_ROOM 0 }
-        ensures named_cost { named_of result Column.Cost ≡ None }
-        ensures named_links { named_of result Column.Links ≡ None }
-        ensures named_back { named_of result Column.Back ≡ None }
+        ensures { result ≡ no_labels }
     {
         Table {
             cost: [0; LENT_ROOM],
@@ -91,13 +90,7 @@ impl Table {
     }
 
     // A figure overwritten, among those that are lent.
-    pub fn alter(
-        &mut self,
-        column: Column,
-        lent: usize,
-        at: usize,
-        value: u32,
-    ) -> Result<(), Fault>
+    pub fn alter(&mut self, column: Column, lent: usize, at: usize, value: u32) -> Result<(), Fault>
         ensures beyond { (result ≡ Err Fault.NoSuchEntry) ↔ (min lent LENT_ROOM ≤ at) }
         ensures ok { OnOk result (self.new ≡ with_figure self.old column at value) }
         ensures fits { IsOk result ↔ ((at < min lent LENT_ROOM) × FitsIn column value) }
@@ -127,7 +120,7 @@ impl Table {
 
     pub fn put_entry(&self, entry: usize, count: usize, text: &mut Text) -> Result<(), Fault>
         ensures put { IsOk result ↔ (entry < min count LENT_ROOM) }
-        ensures beyond { (result ≡ Err Fault.NoSuchEntry) ↔ (min count LENT_ROOM ≤ entry) }
+        ensures only { IsOkUnless result Fault.NoSuchEntry }
         ensures err { OnErr result (text.new ≡ text.old) }
     {
         if count.min(LENT_ROOM) <= entry {

@@ -1,4 +1,5 @@
 // Files: the book from one or into one, and the bytes of one.
+ghost use Rattle.std.specs.Prelude.{◌≡◌, ◌≤◌, length, IfOk, OnErr};
 ghost use Rattle.std.specs.Io.{ReadsAtMost};
 
 use super::laid::Desk;
@@ -41,7 +42,9 @@ pub fn read_file<'a>(
     rt: &impl Files,
     name: &[u8],
     room: &'a mut [u8; FILE_ROOM],
-) -> io::Result<&'a [u8]> {
+) -> io::Result<&'a [u8]>
+    ensures { IfOk result (λ bytes. length bytes.now ≤ FILE_ROOM) }
+{
     let mut file = open_file(rt, name)?;
     let end = read_full(&mut file, room)?;
     Ok(&room[..end])
@@ -51,7 +54,9 @@ fn write_file(rt: &impl Files, name: &[u8], bytes: &[u8]) -> io::Result<()> {
     fs::write(rt, path_of(name)?, bytes)
 }
 
-pub fn open_book(rt: &impl Files, name: &[u8], desk: &mut Desk) -> Result<(), Fault> {
+pub fn open_book(rt: &impl Files, name: &[u8], desk: &mut Desk) -> Result<(), Fault>
+    ensures { OnErr result (desk.new ≡ desk.old) }
+{
     let mut room = [0u8; FILE_ROOM];
     let bytes = read_file(rt, name, &mut room).map_err(|_| Fault::FileNotOpened)?;
     desk.take_book(bytes)

@@ -1,4 +1,6 @@
 // The question that a line asks: its verb, and what stands behind it.
+ghost use Rattle.std.specs.Prelude.{◌≡◌};
+
 use super::books::BOOK_ROOM;
 use super::figures::{Buffer, LENT_ROOM};
 use super::words::{at_least, exactly, narrow, read_numbers, split_word};
@@ -137,6 +139,8 @@ fn fares<'a>(words: &[u8], numbers: &'a mut [u32]) -> Result<([u32; 3], &'a [u32
 }
 
 impl<'a> Question<'a> {
+    ghost use Rattle.script.specs.Questions.{answer_of};
+
     pub fn read(line: &'a [u8], numbers: &'a mut [u32]) -> Result<Question<'a>, Fault> {
         let (verb, words) = split_word(line);
         match verb {
@@ -213,7 +217,9 @@ impl<'a> Question<'a> {
     }
 
     // A question that only changes the desk is not answered by words.
-    pub fn answer(&self) -> Answer {
+    pub fn answer(&self) -> Answer
+        ensures { result ≡ answer_of self.now }
+    {
         match self {
             Question::Open(_)
             | Question::Save(_)

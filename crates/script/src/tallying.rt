@@ -1,4 +1,7 @@
 // What came of a script's lines: the answers that are printed, those that were expected, and how many of them came.
+ghost use Rattle.std.specs.Prelude.{◌≡◌, ◌≢◌, IfOk};
+ghost use Rattle.script.specs.Tallies.{shown, tallied};
+
 use super::writing::{Answer, Fault};
 use std::io;
 
@@ -35,7 +38,9 @@ impl Place<'_> {
         rt: &impl Print,
         answered: Result<Answer, Fault>,
         text: &[u8],
-    ) -> io::Result<Came> {
+    ) -> io::Result<Came>
+        ensures { IfOk result (λ came. came ≡ shown answered) }
+    {
         match answered {
             Ok(Answer::Done) => Ok(Came::Unasked),
             Ok(Answer::Said) => {
@@ -57,7 +62,9 @@ impl Place<'_> {
         question: &[u8],
         expected: &[u8],
         answered: &[u8],
-    ) -> io::Result<Came> {
+    ) -> io::Result<Came>
+        ensures { IfOk result (λ came. came ≢ Came.Unasked) }
+    {
         if is_as_expected(answered, expected) {
             return Ok(Came::AsExpected);
         }
@@ -93,7 +100,9 @@ pub struct Tally {
 }
 
 impl Tally {
-    pub fn count(&mut self, came: Came) {
+    pub fn count(&mut self, came: Came)
+        ensures { self.new ≡ tallied self.old came }
+    {
         match came {
             Came::Unasked => {}
             Came::AsExpected => self.right = self.right.wrapping_add(1),

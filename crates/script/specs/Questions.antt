@@ -1,8 +1,10 @@
 -- What answers a question, and the names of the label buffers.
-use Rattle.std.specs.Prelude.{◌≡◌, ℕ, List, Result, Ok, IfOk, IsOkUnless, codes}
+use Rattle.std.specs.Prelude.{◌≡◌, ◌<◌, ◌≤◌, ℕ, List, length, IfSome, Result, Ok, IfOk, IsOkUnless, codes}
 use Rattle.script.specs.declared.figures.Buffer.{Buffer}
 use Rattle.script.specs.declared.figures.Buffer.TheVariants.{Turn, Link}
 use Rattle.script.specs.declared.figures.Column.TheVariants.{Cost, Links, Back}
+use Rattle.script.specs.declared.books.TheConstants.{BOOK_ROOM}
+use Rattle.script.specs.declared.figures.TheConstants.{LENT_ROOM}
 use Rattle.script.specs.declared.questions.Question.{Question}
 use Rattle.script.specs.declared.questions.Question.TheVariants.{Open, Save, New, Number, Length, Alter, Lend, Fares}
 use Rattle.script.specs.declared.writing.Answer.{Answer}
@@ -36,3 +38,11 @@ pub record NamesBuffer (name : List ℕ) (result : Result Buffer Fault) : Type 0
   pub own : IfOk result (λ buffer. name ≡ name_of buffer)
   pub each : (buffer : Buffer) → name ≡ name_of buffer → result ≡ Ok buffer
   pub only : IsOkUnless result NoSuchBuffer
+
+-- the numbers that a question may say: a book's length and a place in it, and how much is lent
+abbrev pub KeepsLimits : Question → Type 0
+KeepsLimits (New count) = count ≤ BOOK_ROOM
+KeepsLimits (Length count) = count ≤ BOOK_ROOM
+KeepsLimits (Number at values) = (at ≤ 65535) × (0 < length values.now)
+KeepsLimits (Lend _ said) = IfSome said (λ count. count ≤ LENT_ROOM)
+KeepsLimits _ = Unit {0}

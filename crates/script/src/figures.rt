@@ -1,5 +1,5 @@
 // The label figures on the desk: a table for turns and one for links, and how much of each buffer is lent.
-ghost use Rattle.std.specs.Prelude.{◌≡◌, ◌<◌, ◌≤◌, ◌↔◌, ℕ, length, take, min, unwrap_or, IsOk, IfOk, OnErr, OnOk, IsOkUnless};
+ghost use Rattle.std.specs.Prelude.{◌≡◌, ◌<◌, ◌≤◌, ◌↔◌, length, take, min, unwrap_or, IsOk, IfOk, OnErr, OnOk, IsOkUnless};
 ghost use Rattle.script.specs.Tables.{no_labels, named_of, with_named, with_figure, FitsIn};
 
 use super::writing::{Fault, Text};

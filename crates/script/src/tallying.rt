@@ -1,5 +1,5 @@
 // What came of a script's lines: the answers that are printed, those that were expected, and how many of them came.
-ghost use Rattle.std.specs.Prelude.{◌≡◌, ◌≢◌, IfOk};
+ghost use Rattle.std.specs.Prelude.{◌≡◌, ◌≢◌, IfOk, IsTrue, length, take};
 ghost use Rattle.script.specs.Tallies.{shown, tallied};
 
 use super::writing::{Answer, Fault};
@@ -63,7 +63,9 @@ impl Place<'_> {
         expected: &[u8],
         answered: &[u8],
     ) -> io::Result<Came>
-        ensures { IfOk result (λ came. came ≢ Came.Unasked) }
+        ensures asked { IfOk result (λ came. came ≢ Came.Unasked) }
+        ensures same { answered.now ≡ expected.now → IfOk result (λ came. came ≡ Came.AsExpected) }
+        ensures begins { IfOk result (λ came. came ≡ Came.AsExpected → take (length expected.now) answered.now ≡ expected.now) }
     {
         if is_as_expected(answered, expected) {
             return Ok(Came::AsExpected);
@@ -84,7 +86,10 @@ fn print_line(rt: &impl Print, words: &[u8]) -> io::Result<()> {
 }
 
 // The answer itself, or the figures of a refusal without their meaning.
-fn is_as_expected(answered: &[u8], expected: &[u8]) -> bool {
+fn is_as_expected(answered: &[u8], expected: &[u8]) -> bool
+    ensures same { answered.now ≡ expected.now → IsTrue result }
+    ensures begins { IsTrue result → take (length expected.now) answered.now ≡ expected.now }
+{
     match answered.strip_prefix(expected) {
         Some([]) => true,
         Some([b' ', b'a'..=u8::MAX, ..]) => matches!(expected.last(), Some(b'0'..=b'9')),

@@ -1,5 +1,5 @@
 // Words and decimal numbers in a line of text. Words stand apart by blanks.
-ghost use Rattle.std.specs.Prelude.{◌≡◌, ◌+◌, ◌%◌, ◌<◌, ◌≤◌, ◌↔◌, ◌++◌, length, All, IsOk, IfOk, IfSome, IsOkUnless};
+ghost use Rattle.std.specs.Prelude.{◌≡◌, ◌+◌, ◌-◌, ◌%◌, false, slice_index, ◌<◌, ◌≤◌, ◌↔◌, ◌++◌, length, All, IsOk, IfOk, IfSome, IsOkUnless};
 ghost use Rattle.std.specs.List.{before_first};
 ghost use Rattle.script.specs.Words.{is_blank_byte};
 
@@ -20,7 +20,9 @@ fn is_blank(byte: u8) -> bool
 
 // The line without the blanks at its two ends.
 pub fn trimmed(line: &[u8]) -> &[u8]
-    ensures { length result.now ≤ length line.now }
+    ensures within { length result.now ≤ length line.now }
+    ensures first { 0 < length result.now → is_blank_byte (slice_index result.now 0) ≡ false }
+    ensures last { 0 < length result.now → is_blank_byte (slice_index result.now (length result.now - 1)) ≡ false }
 {
     let Some(first) = line.iter().position(|byte| !is_blank(*byte)) else {
         return &[];

@@ -4,6 +4,7 @@ use Rattle.script.specs.BookBytes.{bytes_in, first_number}
 use Rattle.script.specs.Tables.{named_of, with_named, with_figure}
 use Rattle.script.specs.declared.books.TheConstants.{LINKS_AT, MOST_LINKS, MOST_TURNS, TURNS_AT}
 use Rattle.script.specs.declared.figures.Buffer.{Buffer}
+use Rattle.script.specs.declared.figures.Column.{Column}
 use Rattle.script.specs.declared.figures.Buffer.TheVariants.{Turn, Link}
 use Rattle.script.specs.declared.figures.TheConstants.{LENT_ROOM}
 use Rattle.script.specs.declared.laid.Desk.{Desk}
@@ -29,3 +30,8 @@ with_lent desk (Link column) count = record desk { links = with_named desk.links
 abbrev pub with_label : Desk → Buffer → ℕ → ℕ → Desk
 with_label desk (Turn column) at value = record desk { turns = with_figure desk.turns column at value }
 with_label desk (Link column) at value = record desk { links = with_figure desk.links column at value }
+
+-- the column that a label buffer is
+abbrev pub column_of : Buffer → Column
+column_of (Turn column) = column
+column_of (Link column) = column

@@ -2,7 +2,7 @@
 ghost use Rattle.std.specs.Prelude.{◌≡◌, ◌<◌, ◌≤◌, ◌↔◌, [], ◌∷◌, length, min, unwrap_or, IsOk, OnOk, OnErr, IsOkUnless};
 ghost use Rattle.script.specs.declared.figures.TheConstants.{LENT_ROOM};
 ghost use Rattle.script.specs.BookBytes.{bytes_in, new_book};
-ghost use Rattle.script.specs.Tables.{no_labels};
+ghost use Rattle.script.specs.Tables.{FitsIn, no_labels};
 
 use super::books::{BOOK_ROOM, DayBook};
 use super::figures::{Buffer, LENT_ROOM, Table, first_mut};
@@ -132,7 +132,7 @@ pub struct Desk {
 
 impl Desk {
     ghost use Rattle.script.specs.Laid.{no_route, fare_table};
-    ghost use Rattle.script.specs.Desks.{turns_on, links_on, lent_on, with_lent, with_label};
+    ghost use Rattle.script.specs.Desks.{column_of, turns_on, links_on, lent_on, with_lent, with_label};
 
     // No book, no label, no route and no fares.
     pub fn empty() -> Desk
@@ -207,6 +207,7 @@ impl Desk {
 
     pub fn alter(&mut self, buffer: Buffer, at: usize, value: u32) -> Result<(), Fault>
         ensures beyond { (result ≡ Err Fault.NoSuchEntry) ↔ (lent_on self.old buffer ≤ at) }
+        ensures fits { IsOk result ↔ ((at < lent_on self.old buffer) × FitsIn (column_of buffer) value) }
         ensures ok { OnOk result (self.new ≡ with_label self.old buffer at value) }
         ensures err { OnErr result (self.new ≡ self.old) }
     {

@@ -1,7 +1,7 @@
 // Words and decimal numbers in a line of text. Words stand apart by blanks.
-ghost use Rattle.std.specs.Prelude.{◌≡◌, ◌+◌, ◌-◌, ◌%◌, false, slice_index, ◌<◌, ◌≤◌, ◌↔◌, ◌++◌, length, All, IsOk, IfOk, IfSome, IsOkUnless};
+ghost use Rattle.std.specs.Prelude.{◌≡◌, ◌+◌, ◌%◌, ◌<◌, ◌≤◌, ◌↔◌, ◌++◌, length, All, IsOk, IfOk, IfSome, IsOkUnless};
 ghost use Rattle.std.specs.List.{before_first};
-ghost use Rattle.script.specs.Words.{is_blank_byte};
+ghost use Rattle.script.specs.Words.{HasNoBlankEnds, is_blank_byte};
 
 use super::writing::Fault;
 
@@ -21,8 +21,7 @@ fn is_blank(byte: u8) -> bool
 // The line without the blanks at its two ends.
 pub fn trimmed(line: &[u8]) -> &[u8]
     ensures within { length result.now ≤ length line.now }
-    ensures first { 0 < length result.now → is_blank_byte (slice_index result.now 0) ≡ false }
-    ensures last { 0 < length result.now → is_blank_byte (slice_index result.now (length result.now - 1)) ≡ false }
+    ensures ends { HasNoBlankEnds result.now }
 {
     let Some(first) = line.iter().position(|byte| !is_blank(*byte)) else {
         return &[];
@@ -37,7 +36,8 @@ pub fn trimmed(line: &[u8]) -> &[u8]
 // The first word of a line, and the rest of the line.
 pub fn split_word(line: &[u8]) -> (&[u8], &[u8])
     ensures word { result.0.now ≡ before_first is_blank_byte line.now }
-    ensures rest { length result.0.now + length result.1.now ≤ length line.now }
+    ensures rest { HasNoBlankEnds result.1.now }
+    ensures within { length result.0.now + length result.1.now ≤ length line.now }
 {
     for (at, byte) in line.iter().enumerate() {
         if is_blank(*byte) {
@@ -49,8 +49,10 @@ pub fn split_word(line: &[u8]) -> (&[u8], &[u8])
 
 // What stands before and after a sign that begins a word; within a word it has no meaning, so that a file's name may have it.
 pub fn split_at_sign(line: &[u8], sign: u8) -> (&[u8], Option<&[u8]>)
-    ensures whole { length result.0.now ≤ length line.now }
-    ensures parts { IfSome result.1 (λ after. length result.0.now + length after.now < length line.now) }
+    ensures before { HasNoBlankEnds result.0.now }
+    ensures after { IfSome result.1 (λ after. HasNoBlankEnds after.now) }
+    ensures within { length result.0.now ≤ length line.now }
+    ensures both_within { IfSome result.1 (λ after. length result.0.now + length after.now < length line.now) }
 {
     let mut begins = true;
     for (at, byte) in line.iter().enumerate() {

@@ -9,10 +9,11 @@ use Rattle.script.specs.declared.figures.Buffer.TheVariants.{Turn, Link}
 use Rattle.script.specs.declared.figures.TheConstants.{LENT_ROOM}
 use Rattle.script.specs.declared.laid.Desk.{Desk}
 
--- how many turns and links the book's header counts, at most
+-- how many turns the book's header counts, up to the most that a book has
 abbrev pub turns_on : Desk → ℕ
 turns_on desk = min (first_number (drop TURNS_AT (bytes_in desk.book))) MOST_TURNS
 
+-- how many links it counts
 abbrev pub links_on : Desk → ℕ
 links_on desk = min (first_number (drop LINKS_AT (bytes_in desk.book))) MOST_LINKS
 

@@ -4,10 +4,6 @@ use Rattle.script.specs.declared.figures.TheConstants.{LENT_ROOM}
 use Rattle.script.specs.declared.laid.RouteBuffer.{RouteBuffer}
 use Rattle.script.specs.declared.laid.Fares.{Fares}
 
--- how many links of the buffer are lent
-abbrev pub room_lent : RouteBuffer → ℕ
-room_lent buffer = buffer.room
-
 -- the links that are lent
 abbrev pub links_lent_in : RouteBuffer → List ℕ
 links_lent_in buffer = take buffer.room buffer.links

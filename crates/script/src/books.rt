@@ -1,4 +1,7 @@
 // The day book on the desk.
+ghost use Rattle.std.specs.Prelude.{◌≡◌, ◌+◌, ◌-◌, ◌*◌, ◌/◌, ◌≤◌, ◌↔◌, [], length, take, drop, min, IsOk, OnErr, OnOk, IsOkUnless};
+ghost use Rattle.script.specs.BookBytes.{bytes_in, byte_count, byte_length, laid, room_of, first_number, new_book};
+
 use super::figures::first_mut;
 use super::words::narrow;
 use super::writing::Fault;
@@ -24,44 +27,66 @@ pub struct DayBook {
 }
 
 impl DayBook {
-    pub fn empty() -> DayBook {
+    pub fn empty() -> DayBook
+        ensures { bytes_in result ≡ [] }
+    {
         DayBook {
             bytes: [0; BOOK_ROOM],
             length: 0,
         }
     }
 
-    pub fn as_bytes(&self) -> &[u8] {
+    pub fn as_bytes(&self) -> &[u8]
+        ensures bytes { result.now ≡ bytes_in self.now }
+        ensures within { length result.now ≤ BOOK_ROOM }
+    {
         &self.bytes[..self.length.min(BOOK_ROOM)]
     }
 
-    pub fn as_bytes_mut(&mut self) -> &mut [u8] {
+    pub fn as_bytes_mut(&mut self) -> &mut [u8]
+        ensures bytes { result.now ≡ bytes_in self.old }
+        ensures within { length result.now ≤ BOOK_ROOM }
+    {
         let length = self.length;
         first_mut(&mut self.bytes, length)
     }
 
     // Cut, or filled up with noughts.
-    pub fn set_length(&mut self, length: usize) {
+    pub fn set_length(&mut self, length: usize)
+        ensures room { room_of self.new ≡ laid (min length BOOK_ROOM) (room_of self.old) }
+        ensures bytes { bytes_in self.new ≡ take length (room_of self.old) }
+        ensures count { byte_count self.new ≡ min length BOOK_ROOM }
+    {
         let end = length.min(BOOK_ROOM);
         self.bytes[end..].fill(0);
         self.length = end;
     }
 
     // These bytes and then noughts.
-    fn begin(&mut self, bytes: &[u8], length: usize) {
+    fn begin(&mut self, bytes: &[u8], length: usize)
+        ensures bytes { bytes_in self.new ≡ take length (laid (min (byte_length bytes.now) BOOK_ROOM) bytes.now) }
+        ensures count { byte_count self.new ≡ min length BOOK_ROOM }
+    {
         self.bytes.fill(0);
-        for (place, byte) in self.bytes.iter_mut().zip(bytes) {
-            *place = *byte;
-        }
+        let kept = bytes.len().min(BOOK_ROOM);
+        self.bytes[..kept].copy_from_slice(&bytes[..kept]);
         self.set_length(length);
     }
 
     // A book of noughts behind mark and version.
-    pub fn begin_new(&mut self, length: usize) {
+    pub fn begin_new(&mut self, length: usize)
+        ensures bytes { bytes_in self.new ≡ new_book length }
+        ensures count { byte_count self.new ≡ min length BOOK_ROOM }
+    {
         self.begin(MARK_AND_VERSION, length);
     }
 
-    pub fn take(&mut self, bytes: &[u8]) -> Result<(), Fault> {
+    pub fn take(&mut self, bytes: &[u8]) -> Result<(), Fault>
+        ensures taken { IsOk result ↔ (length bytes.now ≤ BOOK_ROOM) }
+        ensures only { IsOkUnless result (Fault.FileLongerThan BOOK_ROOM) }
+        ensures ok { OnOk result (bytes_in self.new ≡ bytes.now) }
+        ensures err { OnErr result (self.new ≡ self.old) }
+    {
         if BOOK_ROOM < bytes.len() {
             return Err(Fault::FileLongerThan(BOOK_ROOM));
         }
@@ -70,7 +95,10 @@ impl DayBook {
     }
 
     // Two-byte numbers written from a byte on.
-    pub fn write_numbers(&mut self, at: usize, values: &[u32]) -> Result<(), Fault> {
+    pub fn write_numbers(&mut self, at: usize, values: &[u32]) -> Result<(), Fault>
+        ensures fits { IsOk result ↔ ((at ≤ byte_count self.old) × (length values.now ≤ (byte_count self.old - at) / 2)) }
+        ensures only { IsOkUnless result Fault.PastTheBook }
+    {
         let Some(rest) = self.as_bytes_mut().get_mut(at..) else {
             return Err(Fault::PastTheBook);
         };
@@ -85,18 +113,24 @@ impl DayBook {
     }
 
     // How many entries the header counts; none where the count does not lie within the book.
-    fn counted_at(&self, at: usize) -> usize {
+    fn counted_at(&self, at: usize) -> usize
+        ensures { result ≡ first_number (drop at (bytes_in self.now)) }
+    {
         match self.as_bytes().get(at..) {
             Some([low, high, ..]) => usize::from(u16::from_le_bytes([*low, *high])),
             _ => 0,
         }
     }
 
-    pub fn turns(&self) -> usize {
+    pub fn turns(&self) -> usize
+        ensures { result ≡ min (first_number (drop TURNS_AT (bytes_in self.now))) MOST_TURNS }
+    {
         self.counted_at(TURNS_AT).min(MOST_TURNS)
     }
 
-    pub fn links(&self) -> usize {
+    pub fn links(&self) -> usize
+        ensures { result ≡ min (first_number (drop LINKS_AT (bytes_in self.now))) MOST_LINKS }
+    {
         self.counted_at(LINKS_AT).min(MOST_LINKS)
     }
 }

@@ -1,5 +1,6 @@
 // The label figures on the desk: a table for turns and one for links, and how much of each buffer is lent.
-ghost use Rattle.std.specs.Prelude.{◌≡◌, ◌≤◌, length, min};
+ghost use Rattle.std.specs.Prelude.{◌≡◌, ◌<◌, ◌≤◌, ◌↔◌, length, take, min, unwrap_or, IsOk, IfOk, OnErr, OnOk, IsOkUnless};
+ghost use Rattle.script.specs.Tables.{no_labels, named_of, with_named, with_figure, FitsIn};
 
 use super::writing::{Fault, Text};
 
@@ -21,6 +22,10 @@ pub enum Buffer {
 }
 
 impl TryFrom<&[u8]> for Buffer {
+    ghost use Rattle.script.specs.Questions.{NamesBuffer};
+
+    ghost try_from_gives = { λ name result. NamesBuffer name.now result };
+
     type Error = Fault;
 
     fn try_from(name: &[u8]) -> Result<Buffer, Fault> {
@@ -48,7 +53,9 @@ pub struct Table {
 }
 
 impl Table {
-    pub fn new() -> Table {
+    pub fn new() -> Table
+        ensures { result ≡ no_labels }
+    {
         Table {
             cost: [0; LENT_ROOM],
             links: [0; LENT_ROOM],
@@ -61,7 +68,8 @@ impl Table {
 
     // How much of a column is lent: as much as the book counts where no `lend` named it.
     pub fn lent(&self, column: Column, counted: usize) -> usize
-        ensures { result ≤ LENT_ROOM }
+        ensures value { result ≡ min (unwrap_or (named_of self.now column) counted) LENT_ROOM }
+        ensures within { result ≤ LENT_ROOM }
     {
         let named = match column {
             Column::Cost => self.cost_lent,
@@ -71,7 +79,9 @@ impl Table {
         named.unwrap_or(counted).min(LENT_ROOM)
     }
 
-    pub fn lend(&mut self, column: Column, count: Option<usize>) {
+    pub fn lend(&mut self, column: Column, count: Option<usize>)
+        ensures { self.new ≡ with_named self.old column count }
+    {
         match column {
             Column::Cost => self.cost_lent = count,
             Column::Links => self.links_lent = count,
@@ -80,13 +90,12 @@ impl Table {
     }
 
     // A figure overwritten, among those that are lent.
-    pub fn alter(
-        &mut self,
-        column: Column,
-        lent: usize,
-        at: usize,
-        value: u32,
-    ) -> Result<(), Fault> {
+    pub fn alter(&mut self, column: Column, lent: usize, at: usize, value: u32) -> Result<(), Fault>
+        ensures beyond { (result ≡ Err Fault.NoSuchEntry) ↔ (min lent LENT_ROOM ≤ at) }
+        ensures ok { OnOk result (self.new ≡ with_figure self.old column at value) }
+        ensures fits { IsOk result ↔ ((at < min lent LENT_ROOM) × FitsIn column value) }
+        ensures err { OnErr result (self.new ≡ self.old) }
+    {
         if lent.min(LENT_ROOM) <= at {
             return Err(Fault::NoSuchEntry);
         }
@@ -109,7 +118,11 @@ impl Table {
         );
     }
 
-    pub fn put_entry(&self, entry: usize, count: usize, text: &mut Text) -> Result<(), Fault> {
+    pub fn put_entry(&self, entry: usize, count: usize, text: &mut Text) -> Result<(), Fault>
+        ensures put { IsOk result ↔ (entry < min count LENT_ROOM) }
+        ensures only { IsOkUnless result Fault.NoSuchEntry }
+        ensures err { OnErr result (text.new ≡ text.old) }
+    {
         if count.min(LENT_ROOM) <= entry {
             return Err(Fault::NoSuchEntry);
         }
@@ -130,13 +143,18 @@ fn put_rows(costs: &[u32], links: &[u16], backs: &[u16], text: &mut Text) {
     }
 }
 
-fn two_bytes(value: u32) -> Result<u16, Fault> {
+fn two_bytes(value: u32) -> Result<u16, Fault>
+    ensures value { IfOk result (λ number. number ≡ value) }
+    ensures fits { IsOk result ↔ (value < 65536) }
+    ensures err { OnErr result (result ≡ Err (Fault.NumberAbove 65535)) }
+{
     u16::try_from(value).map_err(|_| Fault::NumberAbove(u64::from(u16::MAX)))
 }
 
 // The first so many of the items, or all: a part of a field that is an array is not lent in place yet.
 pub fn first_mut<T>(items: &mut [T], count: usize) -> &mut [T]
-    ensures { length result.now ≡ min count (length items.old) }
+    ensures items { result.now ≡ take count items.old }
+    ensures count { length result.now ≡ min count (length items.old) }
 {
     let end = count.min(items.len());
     &mut items[..end]

@@ -1,5 +1,7 @@
 // Files: the book from one or into one, and the bytes of one.
+ghost use Rattle.std.specs.Prelude.{◌≡◌, ◌≤◌, length, IfOk, OnErr, OnOk};
 ghost use Rattle.std.specs.Io.{ReadsAtMost};
+ghost use Rattle.script.specs.Tables.{no_labels};
 
 use super::laid::Desk;
 use super::writing::Fault;
@@ -41,7 +43,9 @@ pub fn read_file<'a>(
     rt: &impl Files,
     name: &[u8],
     room: &'a mut [u8; FILE_ROOM],
-) -> io::Result<&'a [u8]> {
+) -> io::Result<&'a [u8]>
+    ensures { IfOk result (λ bytes. length bytes.now ≤ FILE_ROOM) }
+{
     let mut file = open_file(rt, name)?;
     let end = read_full(&mut file, room)?;
     Ok(&room[..end])
@@ -51,7 +55,13 @@ fn write_file(rt: &impl Files, name: &[u8], bytes: &[u8]) -> io::Result<()> {
     fs::write(rt, path_of(name)?, bytes)
 }
 
-pub fn open_book(rt: &impl Files, name: &[u8], desk: &mut Desk) -> Result<(), Fault> {
+pub fn open_book(rt: &impl Files, name: &[u8], desk: &mut Desk) -> Result<(), Fault>
+    ensures turns { OnOk result (desk.new.turns ≡ no_labels) }
+    ensures links { OnOk result (desk.new.links ≡ no_labels) }
+    ensures route { desk.new.route ≡ desk.old.route }
+    ensures fares { desk.new.fares ≡ desk.old.fares }
+    ensures err { OnErr result (desk.new ≡ desk.old) }
+{
     let mut room = [0u8; FILE_ROOM];
     let bytes = read_file(rt, name, &mut room).map_err(|_| Fault::FileNotOpened)?;
     desk.take_book(bytes)

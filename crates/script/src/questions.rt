@@ -1,4 +1,6 @@
 // The question that a line asks: its verb, and what stands behind it.
+ghost use Rattle.std.specs.Prelude.{◌≡◌, ◌<◌, ◌≤◌, length, IfOk, IfSome};
+
 use super::books::BOOK_ROOM;
 use super::figures::{Buffer, LENT_ROOM};
 use super::words::{at_least, exactly, narrow, read_numbers, split_word};
@@ -69,7 +71,9 @@ const LONGEST_BOOK: u32 = BOOK_ROOM as u32;
 const MOST_LENT: u32 = LENT_ROOM as u32;
 
 // A size that a line says.
-fn size(number: u32) -> usize {
+fn size(number: u32) -> usize
+    ensures { result ≡ number }
+{
     number as usize
 }
 
@@ -78,13 +82,18 @@ fn nothing(words: &[u8], numbers: &mut [u32]) -> Result<(), Fault> {
     Ok(())
 }
 
-fn one(words: &[u8], limit: u32, numbers: &mut [u32]) -> Result<u32, Fault> {
+fn one(words: &[u8], limit: u32, numbers: &mut [u32]) -> Result<u32, Fault>
+    ensures { IfOk result (λ number. number ≤ limit) }
+{
     let [number] = exactly::<1>(read_numbers(words, limit, numbers)?)?;
     Ok(number)
 }
 
 // A byte's place in the book, and numbers from there on.
-fn placed<'a>(words: &[u8], numbers: &'a mut [u32]) -> Result<(usize, &'a [u32]), Fault> {
+fn placed<'a>(words: &[u8], numbers: &'a mut [u32]) -> Result<(usize, &'a [u32]), Fault>
+    ensures place { IfOk result (λ found. found.0 ≤ TWO_BYTES) }
+    ensures some { IfOk result (λ found. 0 < length found.1.now) }
+{
     let ([at], values) = at_least::<1>(read_numbers(words, TWO_BYTES, numbers)?)?;
     if values.is_empty() {
         return Err(Fault::TooFewNumbers);
@@ -103,7 +112,9 @@ fn altered(words: &[u8], numbers: &mut [u32]) -> Result<(usize, u32), Fault> {
     Ok((size(at), value))
 }
 
-fn lent(words: &[u8], numbers: &mut [u32]) -> Result<Option<usize>, Fault> {
+fn lent(words: &[u8], numbers: &mut [u32]) -> Result<Option<usize>, Fault>
+    ensures { IfOk result (λ said. IfSome said (λ count. count ≤ MOST_LENT)) }
+{
     match read_numbers(words, MOST_LENT, numbers)? {
         [] => Ok(None),
         [count] => Ok(Some(size(*count))),
@@ -137,7 +148,11 @@ fn fares<'a>(words: &[u8], numbers: &'a mut [u32]) -> Result<([u32; 3], &'a [u32
 }
 
 impl<'a> Question<'a> {
-    pub fn read(line: &'a [u8], numbers: &'a mut [u32]) -> Result<Question<'a>, Fault> {
+    ghost use Rattle.script.specs.Questions.{answer_of, KeepsLimits};
+
+    pub fn read(line: &'a [u8], numbers: &'a mut [u32]) -> Result<Question<'a>, Fault>
+        ensures { IfOk result KeepsLimits }
+    {
         let (verb, words) = split_word(line);
         match verb {
             b"open" => Ok(Question::Open(words)),
@@ -213,7 +228,9 @@ impl<'a> Question<'a> {
     }
 
     // A question that only changes the desk is not answered by words.
-    pub fn answer(&self) -> Answer {
+    pub fn answer(&self) -> Answer
+        ensures { result ≡ answer_of self.now }
+    {
         match self {
             Question::Open(_)
             | Question::Save(_)

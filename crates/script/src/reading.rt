@@ -1,6 +1,6 @@
 // The lines of a script, out of blocks of its bytes.
 ghost use Rattle.script.specs.declared.reading.TheConstants.{BLOCK_ROOM};
-ghost use Rattle.std.specs.Prelude.{◌≤◌};
+ghost use Rattle.std.specs.Prelude.{◌≡◌, ◌≤◌, [], length, IfSome};
 
 use std::io;
 use std::io::Read;
@@ -25,7 +25,11 @@ pub struct Block {
 }
 
 impl Block {
-    pub fn new() -> Block {
+    ghost use Rattle.script.specs.Blocks.{bytes_left};
+
+    pub fn new() -> Block
+        ensures { bytes_left result ≡ [] }
+    {
         Block {
             bytes: [0; BLOCK_ROOM],
             at: 0,
@@ -54,7 +58,9 @@ impl Block {
         &mut self,
         file: &mut impl Read,
         line: &'a mut [u8],
-    ) -> (Option<&'a [u8]>, Ending) {
+    ) -> (Option<&'a [u8]>, Ending)
+        ensures { IfSome result.0 (λ taken. length taken.now ≤ length line.old) }
+    {
         let mut length = 0usize;
         let mut ending = Ending::File;
         // nothing says that a file ends, so that the bytes are counted to a number that no run comes to

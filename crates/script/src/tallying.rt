@@ -1,4 +1,7 @@
 // What came of a script's lines: the answers that are printed, those that were expected, and how many of them came.
+ghost use Rattle.std.specs.Prelude.{◌≡◌, ◌≢◌, IfOk, IsTrue, length, take};
+ghost use Rattle.script.specs.Tallies.{shown, tallied};
+
 use super::writing::{Answer, Fault};
 use std::io;
 
@@ -35,7 +38,9 @@ impl Place<'_> {
         rt: &impl Print,
         answered: Result<Answer, Fault>,
         text: &[u8],
-    ) -> io::Result<Came> {
+    ) -> io::Result<Came>
+        ensures { IfOk result (λ came. came ≡ shown answered) }
+    {
         match answered {
             Ok(Answer::Done) => Ok(Came::Unasked),
             Ok(Answer::Said) => {
@@ -57,7 +62,11 @@ impl Place<'_> {
         question: &[u8],
         expected: &[u8],
         answered: &[u8],
-    ) -> io::Result<Came> {
+    ) -> io::Result<Came>
+        ensures asked { IfOk result (λ came. came ≢ Came.Unasked) }
+        ensures same { answered.now ≡ expected.now → IfOk result (λ came. came ≡ Came.AsExpected) }
+        ensures begins { IfOk result (λ came. came ≡ Came.AsExpected → take (length expected.now) answered.now ≡ expected.now) }
+    {
         if is_as_expected(answered, expected) {
             return Ok(Came::AsExpected);
         }
@@ -77,7 +86,10 @@ fn print_line(rt: &impl Print, words: &[u8]) -> io::Result<()> {
 }
 
 // The answer itself, or the figures of a refusal without their meaning.
-fn is_as_expected(answered: &[u8], expected: &[u8]) -> bool {
+fn is_as_expected(answered: &[u8], expected: &[u8]) -> bool
+    ensures same { answered.now ≡ expected.now → IsTrue result }
+    ensures begins { IsTrue result → take (length expected.now) answered.now ≡ expected.now }
+{
     match answered.strip_prefix(expected) {
         Some([]) => true,
         Some([b' ', b'a'..=u8::MAX, ..]) => matches!(expected.last(), Some(b'0'..=b'9')),
@@ -93,7 +105,9 @@ pub struct Tally {
 }
 
 impl Tally {
-    pub fn count(&mut self, came: Came) {
+    pub fn count(&mut self, came: Came)
+        ensures { self.new ≡ tallied self.old came }
+    {
         match came {
             Came::Unasked => {}
             Came::AsExpected => self.right = self.right.wrapping_add(1),

@@ -1,6 +1,6 @@
 // What the desk says: an answer as text, and why a line could not be read or done.
 ghost use Rattle.script.specs.declared.writing.TheConstants.{TEXT_ROOM};
-ghost use Rattle.std.specs.Prelude.{◌≤◌};
+ghost use Rattle.std.specs.Prelude.{◌≡◌, ◌≤◌, [], ◌∷◌, ◌++◌, false, length};
 
 use std::fmt;
 use std::fmt::Write;
@@ -17,29 +17,42 @@ pub struct Text {
 }
 
 impl Text {
-    pub fn new() -> Text {
+    ghost use Rattle.script.specs.Texts.{joined_after, text_in, within_room};
+
+    pub fn new() -> Text
+        ensures { text_in result ≡ [] }
+    {
         Text {
             bytes: [0; TEXT_ROOM],
             length: 0,
         }
     }
 
-    pub fn as_bytes(&self) -> &[u8] {
+    pub fn as_bytes(&self) -> &[u8]
+        ensures bytes { result.now ≡ text_in self.now }
+        ensures within { length result.now ≤ TEXT_ROOM }
+    {
         &self.bytes[..self.length]
     }
 
-    pub fn clear(&mut self) {
+    pub fn clear(&mut self)
+        ensures { text_in self.new ≡ [] }
+    {
         self.length = 0;
     }
 
-    pub fn put_byte(&mut self, byte: u8) {
+    pub fn put_byte(&mut self, byte: u8)
+        ensures { text_in self.new ≡ within_room (text_in self.old ++ byte ∷ []) }
+    {
         if self.length < TEXT_ROOM {
             self.bytes[self.length] = byte;
             self.length += 1;
         }
     }
 
-    pub fn put(&mut self, words: &str) {
+    pub fn put(&mut self, words: &str)
+        ensures { text_in self.new ≡ within_room (text_in self.old ++ words.now) }
+    {
         for byte in words.as_bytes() {
             self.put_byte(*byte);
         }
@@ -55,7 +68,9 @@ impl Text {
     }
 
     // A printer's lines without the last one's end, joined by ` / `.
-    pub fn put_lines(&mut self, lines: &[u8]) {
+    pub fn put_lines(&mut self, lines: &[u8])
+        ensures { text_in self.new ≡ within_room (text_in self.old ++ joined_after false lines.now) }
+    {
         let mut ended = false;
         for byte in lines {
             if ended {
@@ -74,6 +89,10 @@ impl Text {
 }
 
 impl Write for Text {
+    ghost use Rattle.script.specs.Texts.{text_in, within_room};
+
+    ghost write_str_gives = { λ before words after. text_in after ≡ within_room (text_in before ++ words) };
+
     fn write_str(&mut self, words: &str) -> fmt::Result {
         self.put(words);
         Ok(())

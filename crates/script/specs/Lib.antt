@@ -1,0 +1,9 @@
+pub mod BookBytes
+pub mod Tables
+pub mod Words
+pub mod Tallies
+pub mod Laid
+pub mod Texts
+pub mod Desks
+pub mod Questions
+pub mod Blocks

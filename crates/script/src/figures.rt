@@ -41,7 +41,7 @@ impl TryFrom<&[u8]> for Buffer {
     }
 }
 
-// Cost, links and back of each entry, and how much is lent of a column that a `lend` named.
+// Cost, links and back of each entry, each a buffer of its own, as document 01 lends and measures them apart; and how much is lent of a column that a `lend` named.
 #[derive(Drop)]
 pub struct Table {
     pub cost: [u32; LENT_ROOM],
@@ -151,7 +151,7 @@ fn two_bytes(value: u32) -> Result<u16, Fault>
     u16::try_from(value).map_err(|_| Fault::NumberAbove(u64::from(u16::MAX)))
 }
 
-// The first so many of the items, or all: a part of a field that is an array is not lent in place yet.
+// The first so many of the items, or all: a part of a field that is an array is not handed out by a slice of it in place yet.
 pub fn first_mut<T>(items: &mut [T], count: usize) -> &mut [T]
     ensures items { result.now ≡ take count items.old }
     ensures count { length result.now ≡ min count (length items.old) }

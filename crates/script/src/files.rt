@@ -3,6 +3,7 @@ ghost use Rattle.std.specs.Prelude.{◌≡◌, ◌≤◌, length, IfOk, OnErr, O
 ghost use Rattle.std.specs.Io.{ReadsAtMost};
 ghost use Rattle.script.specs.Tables.{no_labels};
 
+use super::books::BOOK_ROOM;
 use super::laid::Desk;
 use super::writing::Fault;
 use std::io::{ErrorKind, Read};
@@ -10,7 +11,7 @@ use std::rt::Files;
 use std::{fs, io, str};
 
 // One byte more than a book may have, so that a longer file is seen.
-pub const FILE_ROOM: usize = 65537;
+pub const FILE_ROOM: usize = BOOK_ROOM + 1;
 
 // A file's name is UTF-8: by another none can be opened.
 fn path_of(name: &[u8]) -> io::Result<&str> {
@@ -26,7 +27,7 @@ pub fn read_full(file: &mut impl Read, bytes: &mut [u8]) -> io::Result<usize>
     ensures { ReadsAtMost result bytes.new }
 {
     let mut end = 0;
-    // nothing says that a file ends, so that the reads are counted to a number that no run comes to
+    // nothing says how often a read is broken into, so that the reads are counted to a number that no run comes to
     'reads: for _ in 0..u64::MAX {
         match file.read(&mut bytes[end..]) {
             Ok(0) => return Ok(end),

@@ -8,7 +8,7 @@ use super::books::{BOOK_ROOM, DayBook};
 use super::figures::{Buffer, LENT_ROOM, Table, first_mut};
 use super::writing::{Fault, Text};
 
-// The route buffer, and how much of it is lent; as with the book, no ghost field bounds that.
+// The route buffer, and how much of it is lent: what is past that stays, so that a refusal and a shorter route are seen to leave it. As with the book, no ghost field bounds the room.
 #[derive(Drop)]
 pub struct RouteBuffer {
     links: [u16; LENT_ROOM],
@@ -54,7 +54,7 @@ impl RouteBuffer {
         self.put_first(self.room, text);
     }
 
-    // The links of a route.
+    // The first so many numbers.
     pub fn put_first(&self, count: usize, text: &mut Text) {
         for link in &self.links[..count.min(LENT_ROOM)] {
             text.put_figure(*link);

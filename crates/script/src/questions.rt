@@ -70,7 +70,7 @@ const LONGEST_BOOK: u32 = BOOK_ROOM as u32;
 
 const MOST_LENT: u32 = LENT_ROOM as u32;
 
-// A size that a line says.
+// A size that a line says; std has no conversion of 32 bits to a usize that cannot fail.
 fn size(number: u32) -> usize
     ensures { result ≡ number }
 {

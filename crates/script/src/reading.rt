@@ -15,7 +15,7 @@ pub enum Ending {
     Broken,
 }
 
-// A block of a file; its bytes from a place on are still to be taken.
+// A block of a file; its bytes from a place on are still to be taken. std's BufReader needs a heap.
 #[derive(Drop)]
 pub struct Block {
     bytes: [u8; BLOCK_ROOM],

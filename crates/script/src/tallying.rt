@@ -5,7 +5,7 @@ ghost use Rattle.script.specs.Tallies.{shown, tallied};
 use super::writing::{Answer, Fault};
 use std::io;
 
-// What came of a line.
+// A line that nothing is expected of, or an answer held against the expected one.
 #[derive(Clone, Copy, Debug, PartialEq, Eq)]
 pub enum Came {
     Unasked,
@@ -21,6 +21,7 @@ pub struct Place<'a> {
 }
 
 impl Place<'_> {
+    // Names and lines are bytes and need not be UTF-8, so that they are no `Display`.
     fn print(&self, rt: &impl Print) -> io::Result<()> {
         rt.write_all(self.name)?;
         print!(rt; ", line {}: ", self.line)

@@ -39,12 +39,10 @@ pub fn split_word(line: &[u8]) -> (&[u8], &[u8])
     ensures rest { HasNoBlankEnds result.1.now }
     ensures within { length result.0.now + length result.1.now ≤ length line.now }
 {
-    for (at, byte) in line.iter().enumerate() {
-        if is_blank(*byte) {
-            return (&line[..at], trimmed(&line[at..]));
-        }
+    match line.iter().position(|byte| is_blank(*byte)) {
+        Some(at) => (&line[..at], trimmed(&line[at..])),
+        None => (line, &[]),
     }
-    (line, &[])
 }
 
 // What stands before and after a sign that begins a word; within a word it has no meaning, so that a file's name may have it.

@@ -1,16 +1,17 @@
--- Where the loop leaves at a blank, no blank stands before it; where it ends, the line has none.
-use Rattle.std.proofs.Common.{◌∙◌, arith, sym}
-use Rattle.std.proofs.lemmas.List.{take_all}
-use Rattle.script.proofs.WordLaws.{first_word_ends}
+-- The library's `position` stops at the first blank, where the first word ends.
+use Rattle.std.proofs.Common.{◌∙◌, sym, rules}
+use Rattle.std.proofs.lemmas.Iterator.{YieldsList-from_slice}
+use Rattle.std.proofs.lemmas.Iterator.Search.{position_from_yields_List}
+use Rattle.script.specs.Words.{is_blank_byte}
+use Rattle.script.proofs.WordLaws.{word_to, whole_word}
 use Rattle.script.proofs.words.split_word.Goals as goal
 
-pub returns-then-is_blank-clause-word : goal.returns-then-is_blank-clause-word
-returns-then-is_blank-clause-word c =
-    first_word_ends c.args.line.now c.loop-at.at (omega arith) c.loop-at.invariant
-    (λ _. sym c.is_blank.ensures ∙ c.if-is_blank.true)
+pub returns-in-Some-clause-word : goal.returns-in-Some-clause-word
+returns-in-Some-clause-word c =
+    word_to c.args.line.now c.in-Some.at
+    (sym (position_from_yields_List is_blank_byte _ _ c.position.result c.position.ensures.ran (YieldsList-from_slice _ c.iter.ensures.rest) (λ x b q k. search rules)) ∙ c.in-Some.is)
 
-pub returns-clause-word : goal.returns-clause-word
-returns-clause-word c =
-    sym (take_all c.loop-at.at c.args.line.now (omega arith))
-    ∙ first_word_ends c.args.line.now c.loop-at.at (omega arith) c.loop-at.invariant
-    (λ lt. absurd (omega arith))
+pub returns-in-None-clause-word : goal.returns-in-None-clause-word
+returns-in-None-clause-word c =
+    whole_word c.args.line.now
+    (sym (position_from_yields_List is_blank_byte _ _ c.position.result c.position.ensures.ran (YieldsList-from_slice _ c.iter.ensures.rest) (λ x b q k. search rules)) ∙ c.in-None.is)

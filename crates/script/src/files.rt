@@ -44,11 +44,11 @@ pub fn read_file<'a>(
     rt: &impl Files,
     name: &[u8],
     room: &'a mut [u8; FILE_ROOM],
-) -> io::Result<&'a [u8]>
+) -> Result<&'a [u8], Fault>
     ensures { IfOk result (λ bytes. length bytes.now ≤ FILE_ROOM) }
 {
-    let mut file = open_file(rt, name)?;
-    let end = read_full(&mut file, room)?;
+    let mut file = open_file(rt, name).map_err(|_| Fault::FileNotOpened)?;
+    let end = read_full(&mut file, room).map_err(|_| Fault::FileNotOpened)?;
     Ok(&room[..end])
 }
 
@@ -64,14 +64,14 @@ pub fn open_book(rt: &impl Files, name: &[u8], desk: &mut Desk) -> Result<(), Fa
     ensures err { OnErr result (desk.new ≡ desk.old) }
 {
     let mut room = [0u8; FILE_ROOM];
-    let bytes = read_file(rt, name, &mut room).map_err(|_| Fault::FileNotOpened)?;
+    let bytes = read_file(rt, name, &mut room)?;
     desk.take_book(bytes)
 }
 
 // Whether the book is that file byte for byte.
 pub fn same_book(rt: &impl Files, name: &[u8], desk: &Desk) -> Result<bool, Fault> {
     let mut room = [0u8; FILE_ROOM];
-    let bytes = read_file(rt, name, &mut room).map_err(|_| Fault::FileNotOpened)?;
+    let bytes = read_file(rt, name, &mut room)?;
     Ok(bytes == desk.book.as_bytes())
 }
 

@@ -113,6 +113,7 @@ impl Fares {
         self.basic_distance = basic_distance;
         self.step = step;
         self.premium = premium;
+        // place by place: an array beside a ghost field cannot be lent to `copy_from_slice` yet
         for (at, figure) in table.iter().enumerate() {
             self.table[at] = *figure;
         }

@@ -15,7 +15,7 @@ pub use books::DayBook;
 pub use figures::{Buffer, Column, Table, first_mut};
 pub use files::{FILE_ROOM, open_book, open_file, read_file, read_full, same_book, save_book};
 pub use laid::{Desk, Fares, RouteBuffer};
-pub use questions::Question;
+pub use questions::{Question, Way};
 pub use reading::{Block, Ending};
 pub use tallying::{Came, Place, Tally};
 pub use words::{NUMBERS_ROOM, narrow, split_at_sign, trimmed};

@@ -6,6 +6,14 @@ use super::figures::{Buffer, LENT_ROOM};
 use super::words::{at_least, exactly, narrow, read_numbers, split_word};
 use super::writing::{Answer, Fault};
 
+// Two nodes, and perhaps the room for a route between them.
+#[derive(Clone, Copy, Debug, PartialEq, Eq)]
+pub struct Way {
+    pub origin: u16,
+    pub destination: u16,
+    pub room: Option<usize>,
+}
+
 // Files have their names, label buffers theirs, and the rest numbers.
 #[derive(Clone, Copy, Debug, PartialEq, Eq)]
 pub enum Question<'a> {
@@ -44,16 +52,8 @@ pub enum Question<'a> {
         walk: &'a [u32],
     },
     Search(u16),
-    Route {
-        origin: u16,
-        destination: u16,
-        room: Option<usize>,
-    },
-    Fare {
-        origin: u16,
-        destination: u16,
-        room: Option<usize>,
-    },
+    Route(Way),
+    Fare(Way),
     Edit {
         origin: u16,
         turn: u16,
@@ -77,6 +77,7 @@ fn size(number: u32) -> usize
     number as usize
 }
 
+// Each kind of question has its reader; which numbers are too few or too many, `exactly` and `at_least` promise of the numbers alone.
 fn nothing(words: &[u8], numbers: &mut [u32]) -> Result<(), Fault> {
     exactly::<0>(read_numbers(words, TWO_BYTES, numbers)?)?;
     Ok(())
@@ -122,12 +123,19 @@ fn lent(words: &[u8], numbers: &mut [u32]) -> Result<Option<usize>, Fault>
     }
 }
 
-// Two nodes, and perhaps the room for a route between them.
-fn from_to(words: &[u8], numbers: &mut [u32]) -> Result<(u16, u16, Option<usize>), Fault> {
+fn way_of(origin: u32, destination: u32, room: Option<usize>) -> Way {
+    Way {
+        origin: narrow(origin),
+        destination: narrow(destination),
+        room,
+    }
+}
+
+fn from_to(words: &[u8], numbers: &mut [u32]) -> Result<Way, Fault> {
     match read_numbers(words, TWO_BYTES, numbers)? {
         [] | [_] => Err(Fault::TooFewNumbers),
-        [from, to] => Ok((narrow(*from), narrow(*to), None)),
-        [from, to, room] => Ok((narrow(*from), narrow(*to), Some(size(*room)))),
+        [from, to] => Ok(way_of(*from, *to, None)),
+        [from, to, room] => Ok(way_of(*from, *to, Some(size(*room)))),
         _ => Err(Fault::TooManyNumbers),
     }
 }
@@ -203,22 +211,8 @@ impl<'a> Question<'a> {
                 Ok(Question::Cost { origin, walk })
             }
             b"search" => Ok(Question::Search(narrow(one(words, TWO_BYTES, numbers)?))),
-            b"route" => {
-                let (origin, destination, room) = from_to(words, numbers)?;
-                Ok(Question::Route {
-                    origin,
-                    destination,
-                    room,
-                })
-            }
-            b"fare" => {
-                let (origin, destination, room) = from_to(words, numbers)?;
-                Ok(Question::Fare {
-                    origin,
-                    destination,
-                    room,
-                })
-            }
+            b"route" => Ok(Question::Route(from_to(words, numbers)?)),
+            b"fare" => Ok(Question::Fare(from_to(words, numbers)?)),
             b"edit" => {
                 let (origin, turn, walk) = edited(words, numbers)?;
                 Ok(Question::Edit { origin, turn, walk })

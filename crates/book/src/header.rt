@@ -25,7 +25,7 @@ pub fn mark_good(book: &[u8]) -> bool
     requires { header_bytes ≤ length book.now }
     ensures { result ≡ mark_good book.now }
 {
-    (book[0] == b'L') & (book[1] == b'T') & (book[2] == b'B')
+    book.starts_with(b"LTB")
 }
 
 #[tactic(auto, unfolding(crate::specs::Header::version_good))]
@@ -40,7 +40,7 @@ fn count_at(book: &[u8], at: usize) -> usize
     requires { at + 1 < length book.now }
     ensures { result ≡ number_at book.now at }
 {
-    number_at(book, at) as usize
+    usize::from(number_at(book, at))
 }
 
 #[tactic(auto, unfolding(crate::specs::Header::counts_of))]

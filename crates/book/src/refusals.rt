@@ -32,10 +32,10 @@ impl Refusal {
         ensures { result ≡ place_of self }
     {
         match self {
-            Refusal::Line(entry) => entry,
-            Refusal::Link(entry) => entry,
-            Refusal::Turn(entry) => entry,
-            Refusal::Pair(entry) => entry,
+            Refusal::Line(entry)
+            | Refusal::Link(entry)
+            | Refusal::Turn(entry)
+            | Refusal::Pair(entry) => entry,
             _ => 0,
         }
     }

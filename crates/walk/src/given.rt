@@ -57,11 +57,11 @@ impl Viewed<'_> {
             });
         }
         let first = links[0];
-        if self.book.counts.links <= first as usize {
+        if self.book.counts.links <= usize::from(first) {
             return Err(NoCost::NotPermitted);
         }
         let from = self.link_from(LinkNumber(first));
-        if from.0 != origin.0 {
+        if from != origin {
             return Err(NoCost::NotPermitted);
         }
         self.cost_onward(links)
@@ -72,7 +72,7 @@ impl Viewed<'_> {
 fn cost_in(book: CheckedBook<'_>, origin: NodeNumber, links: &[u16]) -> Result<Costed, NoCost>
     ensures { result ≡ cost_answer (Ok book.entry.counts) book.entry.bytes.now origin.0 links.now }
 {
-    if book.counts.nodes <= origin.0 as usize {
+    if book.counts.nodes <= usize::from(origin.0) {
         return Err(NoCost::Refused(Refusal::NoNode));
     }
     if MOST_LINKS_GIVEN < links.len() {

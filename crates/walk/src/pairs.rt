@@ -18,7 +18,7 @@ pub fn pairs_of(book: CheckedBook<'_>, turn: TurnNumber) -> Range<u16>
     ensures end { result.end ≡ run_from (pair_table book.entry.bytes.now book.entry.counts) book.entry.counts.pairs (turn.0 + 1) }
     ensures within { (result.start ≤ result.end) × (result.end ≤ book.entry.counts.pairs) }
 {
-    let number = turn.0 as usize;
+    let number = usize::from(turn.0);
     let start = book.pairs_from(number) as u16;
     let end = book.pairs_from(number + 1) as u16;
     start..end
@@ -45,14 +45,14 @@ impl Viewed<'_> {
         requires pairs { to ≤ self.book.counts.pairs }
         ensures { result ≡ look_up (listed_at (pair_table self.entry.book.bytes.now self.entry.book.counts) at to turn.0) self.entry.book.counts.carry_over (get_or self.entry.walks.now before.0 0) (get_or self.entry.walks.now turn.0 0) }
     {
-        if at < to && self.book.pair_second(at).0 == turn.0 {
+        if at < to && self.book.pair_second(at) == turn {
             return listed(self.book.pair_extra(at));
         }
         let carried = self.book.counts.carry_over as u16;
         unlisted(
             carried,
-            self.walks[before.0 as usize],
-            self.walks[turn.0 as usize],
+            self.walks[usize::from(before.0)],
+            self.walks[usize::from(turn.0)],
         )
     }
 
@@ -101,8 +101,7 @@ impl Between {
         ensures { result ≡ seconds self }
     {
         match self {
-            Between::Listed(extra) => extra,
-            Between::CarriedOver(extra) => extra,
+            Between::Listed(extra) | Between::CarriedOver(extra) => extra,
             _ => 0,
         }
     }

@@ -14,7 +14,7 @@ impl Viewed<'_> {
         ensures { result ≡ link_split (view_in self.entry) link.0 }
     {
         Split {
-            ride: self.book.link_ride(link) as u32,
+            ride: u32::from(self.book.link_ride(link)),
             wait: link_wait(self.book, link),
             walk: 0,
             extra: 0,
@@ -28,10 +28,10 @@ impl Viewed<'_> {
     {
         let second = self.turn_second(turn);
         Split {
-            ride: self.book.link_ride(second) as u32,
+            ride: u32::from(self.book.link_ride(second)),
             wait: self.turn_wait(turn),
-            walk: self.walks[turn.0 as usize] as u32,
-            extra: stands.seconds() as u32,
+            walk: u32::from(self.walks[usize::from(turn.0)]),
+            extra: u32::from(stands.seconds()),
         }
     }
 }

@@ -15,7 +15,7 @@ pub fn link_wait(book: CheckedBook<'_>, link: LinkNumber) -> u32
 {
     let line = book.link_line(link);
     let headway = book.line_headway(line);
-    (headway as u32 + 1) / 2
+    u32::from(headway).div_ceil(2)
 }
 
 pub fn link_cost(book: CheckedBook<'_>, link: LinkNumber) -> u32
@@ -24,7 +24,7 @@ pub fn link_cost(book: CheckedBook<'_>, link: LinkNumber) -> u32
     ensures limited { result ≤ 39600 }
 {
     let ride = book.link_ride(link);
-    ride as u32 + link_wait(book, link)
+    u32::from(ride) + link_wait(book, link)
 }
 
 impl Viewed<'_> {
@@ -33,7 +33,7 @@ impl Viewed<'_> {
         requires { turn.0 < self.book.counts.turns }
         ensures { result ≡ boards (view_in self.entry) turn.0 }
     {
-        let walk = self.walks[turn.0 as usize];
+        let walk = self.walks[usize::from(turn.0)];
         let first = self.turn_first(turn);
         let second = self.turn_second(turn);
         let line_before = self.book.link_line(first);
@@ -56,10 +56,10 @@ impl Viewed<'_> {
         ensures value { result ≡ turn_cost (view_in self.entry) turn.0 }
         ensures limited { result ≤ 105135 }
     {
-        let walk = self.walks[turn.0 as usize];
+        let walk = self.walks[usize::from(turn.0)];
         let second = self.turn_second(turn);
         let ride = self.book.link_ride(second);
-        walk as u32 + (ride as u32 + self.turn_wait(turn))
+        u32::from(walk) + (u32::from(ride) + self.turn_wait(turn))
     }
 
     // Whether a turn may come after what stands between it and the turn before.
@@ -67,8 +67,8 @@ impl Viewed<'_> {
         requires { turn.0 < self.book.counts.turns }
         ensures { result ≡ may_step (view_in self.entry) stands turn.0 }
     {
-        let walk = self.walks[turn.0 as usize];
-        !(walk == BARRED) & stands.allowed()
+        let walk = self.walks[usize::from(turn.0)];
+        (walk != BARRED) & stands.allowed()
     }
 
     // The seconds that a turn adds after what stands between it and the turn before, if it may come.
@@ -80,6 +80,6 @@ impl Viewed<'_> {
         if !self.may_step(stands, turn) {
             return None;
         }
-        Some(stands.seconds() as u32 + self.turn_cost(turn))
+        Some(u32::from(stands.seconds()) + self.turn_cost(turn))
     }
 }

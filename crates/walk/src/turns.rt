@@ -14,7 +14,7 @@ pub fn followers(book: CheckedBook<'_>, link: LinkNumber) -> Range<u16>
     ensures end { result.end ≡ run_from (turn_table book.entry.bytes.now book.entry.counts) book.entry.counts.turns (link.0 + 1) }
     ensures within { (result.start ≤ result.end) × (result.end ≤ book.entry.counts.turns) }
 {
-    let number = link.0 as usize;
+    let number = usize::from(link.0);
     let start = book.turns_from(number) as u16;
     let end = book.turns_from(number + 1) as u16;
     start..end
@@ -28,7 +28,7 @@ pub fn turn_of(book: CheckedBook<'_>, first: LinkNumber, second: LinkNumber) -> 
     let start = run.start;
     let end = run.end;
     for turn in start..end {
-        if book.turn_second(TurnNumber(turn)).0 == second.0 {
+        if book.turn_second(TurnNumber(turn)) == second {
             return Some(TurnNumber(turn));
         }
     }

@@ -9,4 +9,4 @@ returns-then-not-may_step-clause-value c = rw (sym c.may_step.ensures ∙ c.if-n
 
 pub returns-clause-value : goal.returns-clause-value
 unfolding step_to
-returns-clause-value c = rw (sym c.may_step.ensures ∙ c.if-not-may_step.false, c.turn_cost.ensures.value, c.seconds.ensures)
+returns-clause-value c = rw (sym c.may_step.ensures ∙ c.if-not-may_step.false, c.turn_cost.ensures.value, c.from.ensures, c.seconds.ensures)

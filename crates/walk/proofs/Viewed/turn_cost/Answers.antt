@@ -16,7 +16,7 @@ overflow_add-result-2 c =
 
 pub returns-clause-value : goal.returns-clause-value
 unfolding turn_cost
-returns-clause-value c = rw (c.turn_wait.ensures, c.link_ride-ride.ensures, c.turn_second-second.ensures.value) (omega arith)
+returns-clause-value c = rw (c.from-2.ensures, c.from.ensures, c.from-3.ensures, c.turn_wait.ensures, c.link_ride-ride.ensures, c.turn_second-second.ensures.value) (omega arith)
 
 pub returns-clause-limited : goal.returns-clause-limited
 returns-clause-limited c =

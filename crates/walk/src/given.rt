@@ -1,5 +1,5 @@
 // The cost of a given walk, and where its minutes go.
-ghost use Rattle.std.specs.Prelude.{◌≡◌, ◌≤◌, ◌<◌, Ok, length, get_or};
+ghost use Rattle.std.specs.Prelude.{◌≡◌, ◌≤◌, ◌<◌, ◌∷◌, Ok, length};
 ghost use Rattle.walk.specs.declared.NoCost.TheVariants.{Refused};
 ghost use Rattle.walk.specs.View.{view_in, view_of, walks_of};
 ghost use Rattle.walk.specs.Given.{most_links_given, cost_answer, cost_of_walk};
@@ -20,17 +20,17 @@ impl From<Refusal> for NoCost {
 
 impl Viewed<'_> {
     // The walk from where its first link begins, followed link by link.
-    fn cost_onward(self, links: &[u16]) -> Result<Costed, NoCost>
+    fn cost_onward(self, first: LinkNumber, rest: &[u16]) -> Result<Costed, NoCost>
         requires own { self.walks.now ≡ walks_of self.book.bytes.now self.book.counts }
-        requires some_links { (0 < length links.now) × (length links.now ≤ most_links_given) }
-        requires begins { get_or links.now 0 0 < self.book.counts.links }
-        ensures { result ≡ walk_answer (view_in self.entry) ((view_in self.entry).from (get_or links.now 0 0)) links.now }
+        requires few_links { length rest.now < most_links_given }
+        requires begins { first.0 < self.book.counts.links }
+        ensures { result ≡ walk_answer (view_in self.entry) ((view_in self.entry).from first.0) (first.0 ∷ rest.now) }
     {
-        let mut last = LinkNumber(links[0]);
+        let mut last = first;
         let mut before = None;
-        let mut split = self.link_split(last);
-        for k in 1..links.len() {
-            let link = LinkNumber(links[k]);
+        let mut split = self.link_split(first);
+        for number in rest {
+            let link = LinkNumber(*number);
             let Some(added) = self.advance(before, last, link) else {
                 return Err(NoCost::NotPermitted);
             };
@@ -50,21 +50,20 @@ impl Viewed<'_> {
         requires few_links { length links.now ≤ most_links_given }
         ensures { result ≡ walk_answer (view_in self.entry) origin.0 links.now }
     {
-        if links.len() == 0 {
+        let Some((number, rest)) = links.split_first() else {
             return Ok(Costed {
                 cost: 0,
                 split: Split::default(),
             });
-        }
-        let first = links[0];
-        if self.book.counts.links <= usize::from(first) {
+        };
+        if self.book.counts.links <= usize::from(*number) {
             return Err(NoCost::NotPermitted);
         }
-        let from = self.link_from(LinkNumber(first));
-        if from != origin {
+        let first = LinkNumber(*number);
+        if self.link_from(first) != origin {
             return Err(NoCost::NotPermitted);
         }
-        self.cost_onward(links)
+        self.cost_onward(first, rest)
     }
 }
 

@@ -6,10 +6,10 @@ use Rattle.walk.proofs.walks.read_walks.Goals as goal
 
 pub loop-turn-init : goal.loop-turn-init
 unfolding up_to
-loop-turn-init c = (search rules, refl)
+loop-turn-init c = refl
 
 pub loop-turn-preserved : goal.loop-turn-preserved
-loop-turn-preserved c = (search rules, one_filled _ _ _ (search rules) c.turn_walk.ensures c.loop-turn.invariant.1)
+loop-turn-preserved c = one_filled _ _ _ (search rules) c.turn_walk.ensures c.loop-turn.invariant
 
 pub returns : goal.returns
-returns c = all_filled _ _ _ _ (search rules) (search rules) c.loop-turn.invariant.1
+returns c = all_filled _ _ _ _ (search rules) (search rules) c.loop-turn.invariant

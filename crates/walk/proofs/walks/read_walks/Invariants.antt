@@ -1,9 +1,8 @@
 -- The walks passed are filled.
-use Rattle.std.proofs.Common.{◌≡◌, length}
 use Rattle.book.specs.Entries.{turn_walk}
 use Rattle.book.specs.Tables.{turn_table}
 use Rattle.walk.proofs.Filling.{Filled}
 use Rattle.walk.proofs.walks.read_walks.Given as goal
 
 abbrev pub invariant-loop-turn : goal.invariant-loop-turn
-invariant-loop-turn l = (length l.walks ≡ l.book.counts.turns) × Filled (turn_walk (turn_table l.book.bytes.now l.book.counts)) l.walks l.turn
+invariant-loop-turn l = Filled (turn_walk (turn_table l.book.bytes.now l.book.counts)) l.walks l.turn

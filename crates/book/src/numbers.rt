@@ -7,7 +7,7 @@ pub fn number_at(bytes: &[u8], at: usize) -> u16
     requires { at + 1 < length bytes.now }
     ensures { result ≡ number_at bytes.now at }
 {
-    u16::from(bytes[at]) + 256 * u16::from(bytes[at + 1])
+    u16::from_le_bytes([bytes[at], bytes[at + 1]])
 }
 
 #[tactic(auto, unfolding(crate::specs::Number::with_number))]
@@ -15,6 +15,7 @@ pub fn write_number(bytes: &mut [u8], at: usize, n: u16)
     requires { at + 1 < length bytes.old }
     ensures { bytes.new ≡ with_number bytes.old at n }
 {
-    bytes[at] = (n % 256) as u8;
-    bytes[at + 1] = (n / 256) as u8;
+    let [low, high] = n.to_le_bytes();
+    bytes[at] = low;
+    bytes[at + 1] = high;
 }

@@ -19,6 +19,7 @@ pub fn pairs_of(book: CheckedBook<'_>, turn: TurnNumber) -> Range<u16>
     ensures within { (result.start ≤ result.end) × (result.end ≤ book.entry.counts.pairs) }
 {
     let number = usize::from(turn.0);
+    // a checked book has at most 2,048 pairs and carries at most 3,600 seconds over, so a conversion that can fail would need an error that cannot happen
     let start = book.pairs_from(number) as u16;
     let end = book.pairs_from(number + 1) as u16;
     start..end

@@ -15,6 +15,7 @@ pub fn followers(book: CheckedBook<'_>, link: LinkNumber) -> Range<u16>
     ensures within { (result.start ≤ result.end) × (result.end ≤ book.entry.counts.turns) }
 {
     let number = usize::from(link.0);
+    // a checked book has at most 4,096 turns, so a conversion that can fail would need an error that cannot happen
     let start = book.turns_from(number) as u16;
     let end = book.turns_from(number + 1) as u16;
     start..end
@@ -24,10 +25,7 @@ pub fn followers(book: CheckedBook<'_>, link: LinkNumber) -> Range<u16>
 pub fn turn_of(book: CheckedBook<'_>, first: LinkNumber, second: LinkNumber) -> Option<TurnNumber>
     ensures { result ≡ turn_found (view_of book.entry.bytes.now book.entry.counts) first.0 second.0 }
 {
-    let run = followers(book, first);
-    let start = run.start;
-    let end = run.end;
-    for turn in start..end {
+    for turn in followers(book, first) {
         if book.turn_second(TurnNumber(turn)) == second {
             return Some(TurnNumber(turn));
         }

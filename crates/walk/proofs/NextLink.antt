@@ -3,7 +3,6 @@ use Prim.Native.Nat.{ℕ, ◌≤◌, ◌<◌}
 use mathlib.Core.Path.{◌≡◌, refl, sym, ◌∙◌}
 use mathlib.Core.List.{List, [], ◌∷◌}
 use mathlib.Core.Bool.{Bool, true, false}
-use native.Mathlib.Omega.{arith}
 use lib.Dec.{ltb}
 use borrow.Author.Tests.{lt-ltb, le-ltb, eq-eqb, ltb-true, ltb-false}
 use Rattle.book.specs.declared.Counts.{Counts}
@@ -80,11 +79,6 @@ module _ (book : List ℕ) (counts : Counts) (walks : List ℕ) (checked : check
   pub missing_stops : None ≡ turn_found (view_of book counts) a b → None ≡ one_more U before a b
   unfolding one_more
   missing_stops found = rw (no_turn U good a b (turns_so_far before) (ltb-false _ _ (found_none _ _ (found ∙ same_found))))
-
-  pub found_within : {t : TurnNumber} → Some t ≡ turn_found (view_of book counts) a b → t.0 < counts.turns
-  found_within found =
-      let (listed, same) = found_some _ _ (found ∙ same_found) in
-      omega (arith, ltb-true _ _ listed)
 
   module _ {t : TurnNumber} (found : Some t ≡ turn_found (view_of book counts) a b) {goes : Bool} {stands : Between} (stood : stands ≡ stands_after U t.0 (turns_so_far before)) (stepping : goes ≡ may_step U stands t.0) where
     turn : t.0 ≡ turn_of U a b

@@ -11,7 +11,7 @@ use super::tables::{
 };
 use super::{Counts, Refusal};
 
-// The four tables in file order: each checker sees its part and the counts alone.
+// The four tables in file order: a checker of lines sees its part alone, one of links the counts too, and one of turns or pairs the table below it.
 fn check_parts(
     lines: Entries<'_, LINE_BYTES>,
     links: Entries<'_, LINK_BYTES>,

@@ -62,6 +62,7 @@ fn join_ascends(joins: Entries<'_, JOIN_BYTES>, join: usize) -> bool
     let second_before = joins.field(2, before);
     let first = joins.field(0, join);
     let second = joins.field(2, join);
+    // not by the order of two pairs: this is the order that `ascends` defines, and the wrong version `order_not_strict` changes one comparison in both
     (first_before < first) | ((first_before == first) & (second_before < second))
 }
 
@@ -100,6 +101,7 @@ pub fn scan<G: Fn(usize) -> bool, R: Fn(usize) -> Refusal>(
     ensures { (refusal : ℕ → Refusal) (holds : ℕ → Bool) → ((k : ℕ) (found : Refusal) → R.post refused k found → found ≡ refusal k) → ((k : ℕ) (test : Bool) → k < count → G.post good k test → test ≡ holds k) → result ≡ scan refusal holds count }
 {
     let mut found = Ok(());
+    // labelled, as document 01 asks: the first bad entry is the one whose number is given back
     'entries: for entry in 0..count {
         if !good(entry) {
             found = Err(refused(entry));

@@ -72,7 +72,7 @@ pub struct GivenBack {
     pub place: usize,
 }
 
-// A good book and the counts that its check found.
+// A good book and the counts that its check found. The ghost fields after `good` follow from it: they stand so that no reader need unfold the check.
 #[derive(Clone, Copy)]
 pub struct CheckedBook<'a> {
     pub bytes: &'a [u8],

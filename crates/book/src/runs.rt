@@ -13,7 +13,7 @@ pub fn run_from(joins: Entries<'_, JOIN_BYTES>, n: usize) -> usize
 {
     let mut low = 0;
     let mut high = joins.count;
-    // halved, not counted: no iterator goes on with one half of a range
+    // halved by hand: no iterator goes on with one half of a range, and `partition_point` is of slices, while the definitions read a table's fields in its bytes
     'halving: while low < high {
         let middle = low + (high - low) / 2;
         let first = usize::from(joins.field(0, middle));

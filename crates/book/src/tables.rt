@@ -14,7 +14,7 @@ pub const LINK_BYTES: usize = 8;
 
 pub const JOIN_BYTES: usize = 6;
 
-// A table of `count` entries, each of SIZE bytes.
+// A table of `count` entries, each of SIZE bytes. The count stands beside the bytes, since as a quotient of lengths it would want a SIZE that is not 0 wherever it is read.
 #[derive(Clone, Copy)]
 pub struct Entries<'a, const SIZE: usize> {
     pub bytes: &'a [u8],

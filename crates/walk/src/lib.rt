@@ -32,7 +32,7 @@ pub struct Viewed<'a> {
     ghost each: { length walks.now ≡ book.counts.turns },
 }
 
-// What stands between two successive turns of a walk.
+// What stands between two successive turns of a walk, with the four cases that the definitions have, though the code reads of them only whether a turn is allowed and its seconds.
 #[derive(Clone, Copy)]
 pub enum Between {
     Listed(u16),
@@ -50,7 +50,7 @@ pub struct Split {
     pub extra: u32,
 }
 
-// A walk that one more link was added to: by this turn, which adds these figures.
+// What one more link adds to a walk: the turn to it, and that turn's figures.
 #[derive(Clone, Copy)]
 pub struct Added {
     pub turn: TurnNumber,

@@ -1,4 +1,4 @@
-// What the layers above need of the day book, offered on.
+// What the layers above need of the day book, offered on: in the words of the view, so that their proofs need no table.
 ghost use Rattle.std.specs.Prelude.{◌≡◌, ◌<◌};
 ghost use Rattle.walk.specs.View.{view_in};
 

@@ -1,9 +1,10 @@
 -- The first bad entry is bad, and every entry before it is good; so a table has none exactly when all of its entries are good.
-use Prim.Native.Nat.{ℕ, zero, suc, ◌+◌, ◌≤◌, ◌<◌}
+use Prim.Native.Nat.{ℕ, zero, suc, ◌+◌, ◌-◌, ◌≤◌, ◌<◌}
 use mathlib.Core.Path.{◌≡◌, refl}
 use mathlib.Core.Bool.{Bool, true, false}
 use native.Mathlib.Omega.{arith}
 use native.Mathlib.Decide.{dec_lt}
+use Rattle.std.specs.Prelude.{Option, Some, None, MatchOption, unwrap_or}
 use Rattle.book.specs.FirstBad.{either, first_bad_from, first_bad}
 
 -- k is the first of the entries from `start` up to `end` that fails the test, or `end`
@@ -57,3 +58,31 @@ module _ (good : ℕ → Bool) where
   first_bad_lem count =
       let e : 0 + count ≡ count = omega arith in
       rw e at (first_from 0 count)
+
+module _ (good : ℕ → Bool) (start end : ℕ) where
+  -- no two entries are the first
+  same_first : {k j : ℕ} → First good start end k → First good start end j → k ≤ j
+  same_first {k} {j} f g = by (dec_lt j k)
+    where
+      by : Dec (j < k) → k ≤ j
+      by (yes l) =
+          let passes : good j ≡ true = f.before j g.from l in
+          let fails : good j ≡ false = g.at (omega (arith, f.within)) in
+          cc
+      by (no n) = omega arith
+
+  -- what is found among the entries, or else `end`, is the first bad one
+  pub found_first : start ≤ end → (found : Option ℕ) → MatchOption found ((k : ℕ) → start ≤ k → k < end → good k ≡ true) (λ i. (start ≤ i) × (i < end) × (good i ≡ false) × ((k : ℕ) → start ≤ k → k < i → good k ≡ true)) → unwrap_or found end ≡ first_bad_from good start (end - start)
+  found_first h found m = by found m
+    where
+      scanned : First good start end (first_bad_from good start (end - start))
+      scanned =
+          let e : start + (end - start) ≡ end = omega arith in
+          rw e at (first_from good start (end - start))
+
+      one : {k : ℕ} → First good start end k → k ≡ first_bad_from good start (end - start)
+      one f = omega (arith, same_first f scanned, same_first scanned f)
+
+      by : (found : Option ℕ) → MatchOption found ((k : ℕ) → start ≤ k → k < end → good k ≡ true) (λ i. (start ≤ i) × (i < end) × (good i ≡ false) × ((k : ℕ) → start ≤ k → k < i → good k ≡ true)) → unwrap_or found end ≡ first_bad_from good start (end - start)
+      by None all = one (record { from = h; within = omega arith; before = all; at = λ l. absurd (omega arith) })
+      by (Some i) first = one (record { from = first.0; within = omega (arith, first.1); before = first.3; at = λ l. first.2 })

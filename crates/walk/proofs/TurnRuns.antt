@@ -1,30 +1,22 @@
--- The turn from one link to another stands among the first link's followers, so a scan of these alone finds it.
-use Prim.Native.Nat.{ℕ, ◌+◌, ◌-◌, ◌≤◌, ◌<◌}
+-- The turn from one link to another stands among the first link's followers, so a search of these alone finds it.
+use Prim.Native.Nat.{ℕ, ◌+◌, ◌≤◌, ◌<◌}
 use mathlib.Core.Path.{◌≡◌, refl, sym}
 use mathlib.Core.List.{List}
-use mathlib.Core.Bool.{Bool, true, not}
 use native.Mathlib.Omega.{arith}
 use native.Mathlib.Decide.{dec_lt}
-use lib.Dec.{eqb}
-use borrow.Author.Tests.{lt-ltb, le-ltb, eqb-false, not-true}
+use borrow.Author.Tests.{lt-ltb, le-ltb}
 use Rattle.book.specs.declared.Counts.{Counts}
-use Rattle.std.specs.Prelude.{Some, None, Ok}
+use Rattle.std.specs.Prelude.{Option, Some, None, Ok, MatchOption, option_map}
 use Rattle.book.specs.Tables.{turn_table}
 use Rattle.book.specs.Entries.{turn_first, turn_second}
-use Rattle.book.specs.FirstBad.{first_bad_from}
 use Rattle.book.specs.Check.{check_of}
 use Rattle.book.specs.Runs.{run_from}
-use Rattle.book.proofs.FirstBad.{First, first_from}
 use Rattle.book.proofs.GoodBook.{good_book}
 use Rattle.walk.specs.View.{View, view_with}
 use Rattle.walk.specs.Walks.{turn_of}
 use Rattle.walk.specs.steps.Onward.{numbered, turn_found}
 use Rattle.walk.proofs.GoodView.{good_view, turn_links, turn_of_lem, turn_within}
 use Rattle.walk.proofs.Runs.{run_within, in_run, run_of}
-
--- turn t does not lead to link b
-abbrev pub leads_elsewhere : List ℕ → ℕ → ℕ → Bool
-leads_elsewhere table b t = not (eqb (turn_second table t) b)
 
 -- the walks have no part in it
 pub same_turn_of : (book : List ℕ) (counts : Counts) (walks others : List ℕ) (a b : ℕ) → turn_of (view_with book counts walks) a b ≡ turn_of (view_with book counts others) a b
@@ -48,26 +40,24 @@ module _ (book : List ℕ) (counts : Counts) (walks : List ℕ) (checked : check
         let first : turn_first table t ≡ a = in_run table counts.turns (good_book book counts checked).turns t (follower t l) a (omega arith) (omega arith) in
         sym (rw (first, e) at (turn_of_lem U (good_view book counts walks checked) t (follower t l)))
 
-    pub one_found : (t : ℕ) → from ≤ t → t < to → turn_second table t ≡ b → Some (numbered t) ≡ turn_found U a b
+    one_found : (t : ℕ) → from ≤ t → t < to → turn_second table t ≡ b → Some (numbered t) ≡ turn_found U a b
     one_found t h l e =
         let same = by_links t h l e in
         let listed : turn_of U a b < counts.turns = rw same at (follower t l) in
         rw (lt-ltb _ _ listed, ← same)
 
     -- where all of them lead elsewhere, there is no such turn
-    past : to ≤ first_bad_from (leads_elsewhere table b) from (to - from) → counts.turns ≡ turn_of U a b
+    past : ((t : ℕ) → from ≤ t → t < to → turn_second table t ≡ b → ⊥) → counts.turns ≡ turn_of U a b
     past h = by (dec_lt (turn_of U a b) counts.turns)
       where
-        passed : First (leads_elsewhere table b) from (from + (to - from)) (first_bad_from (leads_elsewhere table b) from (to - from))
-        passed = first_from (leads_elsewhere table b) from (to - from)
-
         by : Dec (turn_of U a b < counts.turns) → counts.turns ≡ turn_of U a b
         by (yes l) =
             let (first, second) = turn_links U a b l in
             let (begun, within) = run_of table counts.turns (good_book book counts checked).turns (turn_of U a b) l a first in
-            let other : leads_elsewhere table b (turn_of U a b) ≡ true = passed.before (turn_of U a b) (omega arith) (omega arith) in
-            absurd (eqb-false _ _ (not-true _ other) second)
+            absurd (h (turn_of U a b) (omega arith) (omega arith) second)
         by (no n) = omega (arith, turn_within U a b)
 
-    pub none_found : to ≤ first_bad_from (leads_elsewhere table b) from (to - from) → None ≡ turn_found U a b
-    none_found h = rw (le-ltb (turn_of U a b) counts.turns (omega (arith, past h)))
+    -- so what is found among them is the turn
+    pub found_among : (found : Option ℕ) → MatchOption found ((t : ℕ) → from ≤ t → t < to → turn_second table t ≡ b → ⊥) (λ t. (from ≤ t) × (t < to) × (turn_second table t ≡ b) × ((k : ℕ) → from ≤ k → k < t → turn_second table k ≡ b → ⊥)) → option_map numbered found ≡ turn_found U a b
+    found_among None h = rw (le-ltb (turn_of U a b) counts.turns (omega (arith, past h)))
+    found_among (Some t) h = one_found t h.0 h.1 h.2

@@ -30,13 +30,9 @@ pub fn pair_from(book: CheckedBook<'_>, from: u16, to: u16, turn: TurnNumber) ->
     requires { (from ≤ to) × (to ≤ book.counts.pairs) }
     ensures { result ≡ pair_from (pair_table book.entry.bytes.now book.entry.counts) from to turn.0 }
 {
-    for pair in from..to {
-        let second = book.pair_second(pair);
-        if turn.0 <= second.0 {
-            return pair;
-        }
-    }
-    to
+    (from..to)
+        .find(|pair| turn.0 <= book.pair_second(*pair).0)
+        .unwrap_or(to)
 }
 
 impl Viewed<'_> {

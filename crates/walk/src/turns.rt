@@ -25,10 +25,7 @@ pub fn followers(book: CheckedBook<'_>, link: LinkNumber) -> Range<u16>
 pub fn turn_of(book: CheckedBook<'_>, first: LinkNumber, second: LinkNumber) -> Option<TurnNumber>
     ensures { result ≡ turn_found (view_of book.entry.bytes.now book.entry.counts) first.0 second.0 }
 {
-    for turn in followers(book, first) {
-        if book.turn_second(TurnNumber(turn)) == second {
-            return Some(TurnNumber(turn));
-        }
-    }
-    None
+    followers(book, first)
+        .find(|turn| book.turn_second(TurnNumber(*turn)) == second)
+        .map(TurnNumber)
 }

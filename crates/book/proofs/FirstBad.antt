@@ -71,18 +71,14 @@ module _ (good : ℕ → Bool) (start end : ℕ) where
           cc
       by (no n) = omega arith
 
-  -- what is found among the entries, or else `end`, is the first bad one
-  pub found_first : start ≤ end → (found : Option ℕ) → MatchOption found ((k : ℕ) → start ≤ k → k < end → good k ≡ true) (λ i. (start ≤ i) × (i < end) × (good i ≡ false) × ((k : ℕ) → start ≤ k → k < i → good k ≡ true)) → unwrap_or found end ≡ first_bad_from good start (end - start)
-  found_first h found m = by found m
-    where
-      scanned : First good start end (first_bad_from good start (end - start))
-      scanned =
-          let e : start + (end - start) ≡ end = omega arith in
-          rw e at (first_from good start (end - start))
+  module _ (h : start ≤ end) where
+    scanned : {k : ℕ} → First good start end k → k ≡ first_bad_from good start (end - start)
+    scanned {k} f =
+        let e : start + (end - start) ≡ end = omega arith in
+        let g : First good start end (first_bad_from good start (end - start)) = rw e at (first_from good start (end - start)) in
+        omega (arith, same_first f g, same_first g f)
 
-      one : {k : ℕ} → First good start end k → k ≡ first_bad_from good start (end - start)
-      one f = omega (arith, same_first f scanned, same_first scanned f)
-
-      by : (found : Option ℕ) → MatchOption found ((k : ℕ) → start ≤ k → k < end → good k ≡ true) (λ i. (start ≤ i) × (i < end) × (good i ≡ false) × ((k : ℕ) → start ≤ k → k < i → good k ≡ true)) → unwrap_or found end ≡ first_bad_from good start (end - start)
-      by None all = one (record { from = h; within = omega arith; before = all; at = λ l. absurd (omega arith) })
-      by (Some i) first = one (record { from = first.0; within = omega (arith, first.1); before = first.3; at = λ l. first.2 })
+    -- what is found among the entries, or else `end`, is the first bad one
+    pub found_first : (found : Option ℕ) → MatchOption found ((k : ℕ) → start ≤ k → k < end → good k ≡ true) (λ i. (start ≤ i) × (i < end) × (good i ≡ false) × ((k : ℕ) → start ≤ k → k < i → good k ≡ true)) → unwrap_or found end ≡ first_bad_from good start (end - start)
+    found_first None all = scanned (record { from = h; within = omega arith; before = all; at = λ l. absurd (omega arith) })
+    found_first (Some i) first = scanned (record { from = first.0; within = omega (arith, first.1); before = first.3; at = λ l. first.2 })

@@ -13,7 +13,7 @@ pub fn run_from(joins: Entries<'_, JOIN_BYTES>, n: usize) -> usize
 {
     let mut low = 0;
     let mut high = joins.count;
-    // halved by hand: no iterator goes on with one half of a range, and `partition_point` is of slices, while the definitions read a table's fields in its bytes
+    // halved by hand: no iterator goes on with one half of a range, and `partition_point` is of slices, so the table would have to be cut into entries whose fields are led back to those that the definitions read in its bytes
     'halving: while low < high {
         let middle = low + (high - low) / 2;
         let first = usize::from(joins.field(0, middle));

@@ -22,11 +22,11 @@ fn better_of(
     requires exists { link.0 < book.counts.links }
     ensures { as_entry result ≡ better_of (link_to (link_table book.entry.bytes.now book.entry.counts)) links.entry.cost.now links.entry.links.now destination.0 link.0 (as_entry held) }
 {
-    if links.cost[link.0 as usize] == UNREACHED {
+    if links.cost[usize::from(link.0)] == UNREACHED {
         return held;
     }
     let to = book.link_to(link);
-    if to.0 != destination.0 {
+    if to != destination {
         return held;
     }
     let label = links.own(link.0);

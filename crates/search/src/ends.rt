@@ -17,11 +17,11 @@ fn end_turn(view: Viewed<'_>, turns: Labels<'_>, turn: TurnNumber, links: &mut L
     ensures ended { table_in links.new ≡ ended_once (view_in view.entry).second turns.entry.cost.now turns.entry.links.now turn.0 (table_in links.old) }
     ensures same { SameBuffers links.old links.new }
 {
-    if turns.cost[turn.0 as usize] == UNREACHED {
+    if turns.cost[usize::from(turn.0)] == UNREACHED {
         return;
     }
     let link = view.turn_second(turn);
-    links.offer(link.0 as usize, turns.own(turn.0));
+    links.offer(usize::from(link.0), turns.own(turn.0));
 }
 
 // Each reached turn offers its figures to the link that it ends with.

@@ -1,9 +1,10 @@
 // One entry of a table of labels: what it holds, and the offer of another label.
-ghost use Rattle.std.specs.Prelude.{◌≡◌, ◌+◌, ◌<◌, length};
-ghost use Rattle.walk.specs.Labels.{entry_at};
+ghost use Rattle.std.specs.Prelude.{◌≡◌, ◌+◌, ◌<◌, ℕ, length};
+ghost use Rattle.walk.specs.Labels.{Entry, entry_at};
 ghost use Rattle.walk.specs.steps.ViewNet.{is_none};
+ghost use Rattle.search.specs.declared.Label.{Label};
 ghost use Rattle.search.specs.Lent.{labels_in, table_in, SameBuffers};
-ghost use Rattle.search.specs.steps.Tables.{as_entry, own_label, one_turn_on, stands_as, placed, goes_ahead, offered, Holds};
+ghost use Rattle.search.specs.steps.Tables.{as_entry, own_label, one_turn_on, stands_as, placed, goes_ahead, offered, table_up_to, Sized, Holds};
 ghost use Rattle.search.specs.steps.Judging.{limited};
 
 use super::figures::{MOST_WALK_LINKS, MOST_WALK_SECONDS, NO_WALK};
@@ -71,8 +72,8 @@ impl Labels<'_> {
         ensures { as_entry result ≡ own_label self.entry.cost.now self.entry.links.now entry }
     {
         Label {
-            cost: self.cost[entry as usize],
-            links: self.links[entry as usize],
+            cost: self.cost[usize::from(entry)],
+            links: self.links[usize::from(entry)],
             back: entry,
         }
     }
@@ -98,6 +99,20 @@ impl LabelsMut<'_> {
         self.cost[entry] = label.cost;
         self.links[entry] = label.links;
         self.back[entry] = label.back;
+    }
+
+    // So many entries, each with the label that is made of its number.
+    pub fn fill<F: Fn(u16) -> Label>(&mut self, count: usize, label_of: F)
+        requires sized { Sized count (table_in self.old) }
+        requires few { count < 65536 }
+        requires label_of { (k : ℕ) → k < count → F.pre label_of k }
+        ensures filled { (entry : ℕ → Entry) → ((k : ℕ) (label : Label) → k < count → F.post label_of k label → as_entry label ≡ entry k) → table_in self.new ≡ table_up_to count entry }
+        ensures same { SameBuffers self.old self.new }
+    {
+        for entry in 0..count as u16 {
+            let label = label_of(entry);
+            self.place(usize::from(entry), label);
+        }
     }
 
     // The entry takes the label where it goes ahead of its own.

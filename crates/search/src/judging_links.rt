@@ -17,12 +17,12 @@ impl Judge<'_, '_> {
     fn end_leads(self, link: LinkNumber, label: Label) -> bool
         ensures { result ≡ end_leads (view_in self.entry.view) self.entry.turns.cost.now self.entry.turns.links.now link.0 (as_entry label) }
     {
-        if self.view.book.counts.turns <= label.back as usize {
+        if self.view.book.counts.turns <= usize::from(label.back) {
             return false;
         }
         let second = self.view.turn_second(TurnNumber(label.back));
-        (self.turns.cost[label.back as usize] != UNREACHED)
-            & ((second.0 == link.0) & label.same_as(self.turns.own(label.back)))
+        (self.turns.cost[usize::from(label.back)] != UNREACHED)
+            & ((second == link) & label.same_as(self.turns.own(label.back)))
     }
 
     #[tactic(auto, unfolding(crate::specs::steps::Judging::link_stands))]
@@ -30,7 +30,7 @@ impl Judge<'_, '_> {
         requires { link.0 < self.view.book.counts.links }
         ensures { result ≡ link_stands (view_in self.entry.view) self.entry.origin.0 self.entry.turns.cost.now self.entry.turns.links.now (labels_in self.entry.links) link.0 }
     {
-        let label = self.links.at(link.0 as usize);
+        let label = self.links.at(usize::from(link.0));
         let start = alone(self.view, self.origin, link);
         if start.goes_ahead(label) {
             return false;

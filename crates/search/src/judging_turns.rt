@@ -35,7 +35,7 @@ impl Judge<'_, '_> {
             None => false,
             Some(more) => label
                 .one_turn_on(more, before)
-                .goes_ahead(self.turns.at(turn.0 as usize)),
+                .goes_ahead(self.turns.at(usize::from(turn.0))),
         }
     }
 
@@ -67,17 +67,17 @@ impl Judge<'_, '_> {
         requires { turn.0 < self.view.book.counts.turns }
         ensures { result ≡ back_leads (view_in self.entry.view) (labels_in self.entry.turns) turn.0 (as_entry label) }
     {
-        if self.view.book.counts.turns <= label.back as usize {
+        if self.view.book.counts.turns <= usize::from(label.back) {
             return false;
         }
         let back = TurnNumber(label.back);
-        let before = self.turns.at(label.back as usize);
+        let before = self.turns.at(usize::from(label.back));
         if !before.limited() {
             return false;
         }
         let second = self.view.turn_second(back);
         let first = self.view.turn_first(turn);
-        if second.0 != first.0 {
+        if second != first {
             return false;
         }
         let stands = self.view.between_turns(back, turn);
@@ -94,7 +94,7 @@ impl Judge<'_, '_> {
     {
         let link = self.view.turn_second(turn);
         let label = self.turns.own(turn.0);
-        !label.goes_ahead(self.links.at(link.0 as usize))
+        !label.goes_ahead(self.links.at(usize::from(link.0)))
     }
 
     // Whether the label of a reached turn comes from its start or its back, and overtakes nothing.
@@ -113,7 +113,7 @@ impl Judge<'_, '_> {
         requires { turn.0 < self.view.book.counts.turns }
         ensures { result ≡ turn_stands (view_in self.entry.view) self.entry.origin.0 (labels_in self.entry.turns) (labels_in self.entry.links) turn.0 }
     {
-        let label = self.turns.at(turn.0 as usize);
+        let label = self.turns.at(usize::from(turn.0));
         let start = start_of(self.view, self.origin, turn);
         if start.goes_ahead(label) {
             return false;

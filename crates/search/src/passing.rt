@@ -31,7 +31,7 @@ fn pass(
 {
     let stands = view.between_at(at, to, before, turn);
     if let Some(more) = view.step_to(stands, turn) {
-        turns.offer(turn.0 as usize, label.one_turn_on(more, before));
+        turns.offer(usize::from(turn.0), label.one_turn_on(more, before));
     }
 }
 

@@ -15,7 +15,7 @@ impl Labels<'_> {
         requires { (turn.0 < length self.cost.now) × (turn.0 < length settled.now) }
         ensures { result ≡ is_candidate self.entry.cost.now settled.now turn.0 }
     {
-        let at = turn.0 as usize;
+        let at = usize::from(turn.0);
         !settled[at] & (self.cost[at] != UNREACHED)
     }
 
@@ -24,8 +24,8 @@ impl Labels<'_> {
         requires { (length self.links.now ≡ length self.cost.now) × (one.0 < length self.cost.now) × (other.0 < length self.cost.now) }
         ensures { result ≡ key_less (key_at self.entry.cost.now self.entry.links.now one.0) (key_at self.entry.cost.now self.entry.links.now other.0) }
     {
-        let here = one.0 as usize;
-        let there = other.0 as usize;
+        let here = usize::from(one.0);
+        let there = usize::from(other.0);
         (self.cost[here] < self.cost[there])
             | ((self.cost[here] == self.cost[there]) & (self.links[here] < self.links[there]))
     }

@@ -26,13 +26,13 @@ fn route_onward(
     requires own { view.walks.now ≡ walks_of view.book.bytes.now view.book.counts }
     ensures { RouteOnward (view_of view.entry.book.bytes.now view.entry.book.counts) origin.0 destination.0 route.old result route.new }
 {
-    if origin.0 == destination.0 {
+    if origin == destination {
         return Ok(Routed { cost: 0, links: 0 });
     }
     let Some(arrival) = best_into(view.book, destination, links) else {
         return Err(Refusal::NoWalk);
     };
-    if route.len() < arrival.links as usize {
+    if route.len() < usize::from(arrival.links) {
         return Err(Refusal::NoRoom);
     }
     trace(

@@ -21,8 +21,8 @@ fn settle(view: Viewed<'_>, turn: TurnNumber, settled: &mut [bool], turns: &mut 
     ensures passed { table_in turns.new ≡ table_up_to view.entry.book.counts.turns (λ t. passed_to (view_in view.entry) turn.0 (get_or turns.old.cost.now turn.0 0) (get_or turns.old.links.now turn.0 0) (entry_at (table_in turns.old) t) t) }
     ensures same { SameBuffers turns.old turns.new }
 {
-    settled[turn.0 as usize] = true;
-    let label = turns.lent().at(turn.0 as usize);
+    settled[usize::from(turn.0)] = true;
+    let label = turns.lent().at(usize::from(turn.0));
     spread(view, turn, label, turns);
 }
 

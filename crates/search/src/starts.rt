@@ -15,12 +15,12 @@ pub fn start_of(view: Viewed<'_>, origin: NodeNumber, turn: TurnNumber) -> Label
     requires { turn.0 < view.book.counts.turns }
     ensures { as_entry result ≡ start_entry (view_in view.entry) origin.0 turn.0 }
 {
-    if view.walks[turn.0 as usize] == BARRED {
+    if view.walks[usize::from(turn.0)] == BARRED {
         return NO_WALK;
     }
     let first = view.turn_first(turn);
     let from = view.link_from(first);
-    if from.0 != origin.0 {
+    if from != origin {
         return NO_WALK;
     }
     Label {
@@ -35,10 +35,9 @@ pub fn start_turns(view: Viewed<'_>, origin: NodeNumber, turns: &mut LabelsMut<'
     ensures started { table_in turns.new ≡ table_up_to view.entry.book.counts.turns (start_entry (view_in view.entry) origin.0) }
     ensures same { SameBuffers turns.old turns.new }
 {
-    for turn in 0..view.book.counts.turns as u16 {
-        let label = start_of(view, origin, TurnNumber(turn));
-        turns.place(turn as usize, label);
-    }
+    turns.fill(view.book.counts.turns, |turn| {
+        start_of(view, origin, TurnNumber(turn))
+    });
 }
 
 // A walk of one link, where it leaves the origin.
@@ -47,7 +46,7 @@ pub fn alone(view: Viewed<'_>, origin: NodeNumber, link: LinkNumber) -> Label
     ensures { as_entry result ≡ alone_entry (view_in view.entry) origin.0 link.0 }
 {
     let from = view.link_from(link);
-    if from.0 != origin.0 {
+    if from != origin {
         return NO_WALK;
     }
     Label {
@@ -62,8 +61,7 @@ pub fn start_links(view: Viewed<'_>, origin: NodeNumber, links: &mut LabelsMut<'
     ensures started { table_in links.new ≡ table_up_to view.entry.book.counts.links (alone_entry (view_in view.entry) origin.0) }
     ensures same { SameBuffers links.old links.new }
 {
-    for link in 0..view.book.counts.links as u16 {
-        let label = alone(view, origin, LinkNumber(link));
-        links.place(link as usize, label);
-    }
+    links.fill(view.book.counts.links, |link| {
+        alone(view, origin, LinkNumber(link))
+    });
 }

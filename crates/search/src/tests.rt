@@ -12,7 +12,7 @@ pub fn node_test(answer: Result<Counts, Refusal>, node: NodeNumber) -> Result<Co
     ensures { result ≡ node_test answer node.0 }
 {
     let counts = answer?;
-    if counts.nodes <= node.0 as usize {
+    if counts.nodes <= usize::from(node.0) {
         return Err(Refusal::NoNode);
     }
     Ok(counts)

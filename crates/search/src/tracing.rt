@@ -14,8 +14,8 @@ fn read_back(view: &Viewed<'_>, back: &[u16], turn: TurnNumber, links: u16, rout
 {
     let second = view.turn_second(turn);
     let at = links - 1;
-    route[at as usize] = second.0;
-    let before = back[turn.0 as usize];
+    route[usize::from(at)] = second.0;
+    let before = back[usize::from(turn.0)];
     if before == START_BACK {
         let first = view.turn_first(turn);
         route[0] = first.0;
@@ -37,7 +37,7 @@ pub fn trace(
     requires traced { Traced (LinkTrail (view_in view) turn_back.now link_back.now link.0) links (length route.old) }
     ensures { Written (LinkTrail (view_in view.entry) turn_back.now link_back.now link.0) route.old route.new }
 {
-    let turn = link_back[link.0 as usize];
+    let turn = link_back[usize::from(link.0)];
     if turn == START_BACK {
         route[0] = link.0;
         return;

@@ -1,12 +1,13 @@
 -- The entry follows the one test.
-use borrow.Author.Tests.{eq-eqb, ne_eqb}
+use Rattle.std.proofs.Common.{sym, ◌∙◌}
+use Rattle.std.proofs.lemmas.Bool.{not-true, not-false}
 use Rattle.search.specs.steps.Starts.{alone_entry}
 use Rattle.search.proofs.starts.alone.Goals as goal
 
-pub returns-then-from-origin : goal.returns-then-from-origin
+pub returns-then-ne : goal.returns-then-ne
 unfolding alone_entry
-returns-then-from-origin c = rw (← c.link_from-from.ensures, ne_eqb _ _ c.if-from-origin.true)
+returns-then-ne c = rw (← c.link_from-from.ensures, not-true _ (sym c.ne.ensures ∙ c.if-ne.true))
 
 pub returns : goal.returns
 unfolding alone_entry
-returns c = rw (← c.link_from-from.ensures, eq-eqb _ _ c.if-from-origin.false, c.link_cost.ensures.value)
+returns c = rw (← c.link_from-from.ensures, not-false _ (sym c.ne.ensures ∙ c.if-ne.false), c.link_cost.ensures.value)

@@ -1,17 +1,18 @@
 -- The entry follows the two tests.
-use Rattle.std.proofs.Common.{rules, arith}
+use Rattle.std.proofs.Common.{rules, arith, sym, ◌∙◌}
+use Rattle.std.proofs.lemmas.Bool.{not-true, not-false}
 use borrow.Author.Tests.{eq-eqb, ne_eqb}
 use Rattle.search.specs.steps.Starts.{start_entry}
 use Rattle.search.proofs.starts.start_of.Goals as goal
 
-pub returns-then-view-turn : goal.returns-then-view-turn
+pub returns-then-view-from : goal.returns-then-view-from
 unfolding start_entry
-returns-then-view-turn c = rw (eq-eqb _ _ c.if-view-turn.true)
+returns-then-view-from c = rw (eq-eqb _ _ (rw c.from.ensures at c.if-view-from.true))
 
-pub returns-then-from-origin : goal.returns-then-from-origin
+pub returns-then-ne : goal.returns-then-ne
 unfolding start_entry
-returns-then-from-origin c = rw (← c.turn_first-first.ensures.value, ← c.link_from-from.ensures, ne_eqb _ _ c.if-view-turn.false, ne_eqb _ _ c.if-from-origin.true)
+returns-then-ne c = rw (← c.turn_first-first.ensures.value, ← c.link_from-from.ensures, ne_eqb _ _ (rw c.from.ensures at c.if-view-from.false), not-true _ (sym c.ne.ensures ∙ c.if-ne.true))
 
 pub returns : goal.returns
 unfolding start_entry
-returns c = rw (← c.turn_first-first.ensures.value, ← c.link_from-from.ensures, ne_eqb _ _ c.if-view-turn.false, eq-eqb _ _ c.if-from-origin.false, c.link_cost.ensures.value, c.turn_cost.ensures.value)
+returns c = rw (← c.turn_first-first.ensures.value, ← c.link_from-from.ensures, ne_eqb _ _ (rw c.from.ensures at c.if-view-from.false), not-false _ (sym c.ne.ensures ∙ c.if-ne.false), c.link_cost.ensures.value, c.turn_cost.ensures.value)

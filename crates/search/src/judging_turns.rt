@@ -31,11 +31,9 @@ impl Judge<'_, '_> {
         ensures { result ≡ overtaken_by (step_to (view_in self.entry.view) (look_up (listed_at (pair_table self.entry.view.book.bytes.now self.entry.view.book.counts) at to turn.0) self.entry.view.book.counts.carry_over (get_or self.entry.view.walks.now before.0 0) (get_or self.entry.view.walks.now turn.0 0)) turn.0) before.0 label.cost label.links (entry_at (labels_in self.entry.turns) turn.0) }
     {
         let stands = self.view.between_at(at, to, before, turn);
-        match self.view.step_to(stands, turn) {
+        match label.onward_to(self.view, stands, before, turn) {
             None => false,
-            Some(more) => label
-                .one_turn_on(more, before)
-                .goes_ahead(self.turns.at(usize::from(turn.0))),
+            Some(offer) => offer.goes_ahead(self.turns.at(usize::from(turn.0))),
         }
     }
 
@@ -48,6 +46,7 @@ impl Judge<'_, '_> {
         let link = self.view.turn_second(before);
         let run = followers(self.view.book, link);
         let pairs = pairs_of(self.view.book, before);
+        // The ends by name, since the loop's invariant speaks of them and a range changes as it is walked.
         let start = run.start;
         let end = run.end;
         let to = pairs.end;
@@ -81,9 +80,9 @@ impl Judge<'_, '_> {
             return false;
         }
         let stands = self.view.between_turns(back, turn);
-        match self.view.step_to(stands, turn) {
+        match before.onward_to(self.view, stands, back, turn) {
             None => false,
-            Some(more) => label.same_as(before.one_turn_on(more, back)),
+            Some(offer) => label.same_as(offer),
         }
     }
 
@@ -127,10 +126,12 @@ impl Judge<'_, '_> {
         self.reached_stands(start, turn, label)
     }
 
+    // A loop, since `all` over the range leaves a goal that `search` does not close.
     #[tactic(auto, unfolding(crate::specs::steps::Judging::every_below))]
     pub fn turns_stand(self) -> bool
         ensures { result ≡ every_below (turn_stands (view_in self.entry.view) self.entry.origin.0 (labels_in self.entry.turns) (labels_in self.entry.links)) self.entry.view.book.counts.turns }
     {
+        // A checked book has at most 4,096 turns: as `u16` their count stays the same.
         for turn in 0..self.view.book.counts.turns as u16 {
             if !self.turn_stands(TurnNumber(turn)) {
                 return false;

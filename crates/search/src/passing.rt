@@ -1,17 +1,35 @@
 // A settled turn's label passed on to the turns that may follow it.
-ghost use Rattle.std.specs.Prelude.{◌≡◌, ◌≤◌, ◌<◌, get_or};
+ghost use Rattle.std.specs.Prelude.{◌≡◌, ◌≤◌, ◌<◌, ℕ, None, Some, get_or, MatchOption};
 ghost use Rattle.book.specs.Tables.{pair_table};
 ghost use Rattle.walk.specs.View.{view_in};
 ghost use Rattle.walk.specs.Walks.{look_up};
 ghost use Rattle.walk.specs.Labels.{entry_at};
 ghost use Rattle.walk.specs.steps.Pairs.{listed_at, step_to};
 ghost use Rattle.search.specs.Lent.{table_in, SameBuffers};
-ghost use Rattle.search.specs.steps.Tables.{table_up_to, Sized};
+ghost use Rattle.search.specs.steps.Tables.{as_entry, one_turn_on, table_up_to, Sized};
 ghost use Rattle.search.specs.steps.Passing.{StepFits, passed_by, passed_to};
 
 use super::{Label, LabelsMut};
 use book::TurnNumber;
-use walk::{Viewed, followers, pair_from, pairs_of};
+use walk::{Between, Viewed, followers, pair_from, pairs_of};
+
+impl Label {
+    // What turn `before`, of this label, offers a turn that may follow it after what stands between.
+    pub fn onward_to(
+        self,
+        view: Viewed<'_>,
+        stands: Between,
+        before: TurnNumber,
+        turn: TurnNumber,
+    ) -> Option<Label>
+        requires turn { turn.0 < view.book.counts.turns }
+        requires fits { StepFits self.cost self.links }
+        ensures { MatchOption result (step_to (view_in view.entry) stands turn.0 ≡ None) (λ label. (more : ℕ) × (step_to (view_in view.entry) stands turn.0 ≡ Some more) × (as_entry label ≡ one_turn_on self.cost self.links more before.0)) }
+    {
+        let more = view.step_to(stands, turn)?;
+        Some(self.one_turn_on(more, before))
+    }
+}
 
 // Passes the label of turn `before` on to one turn; its pairs end at `to`, and those before `at` are of earlier turns.
 fn pass(
@@ -30,8 +48,8 @@ fn pass(
     ensures same { SameBuffers turns.old turns.new }
 {
     let stands = view.between_at(at, to, before, turn);
-    if let Some(more) = view.step_to(stands, turn) {
-        turns.offer(usize::from(turn.0), label.one_turn_on(more, before));
+    if let Some(offer) = label.onward_to(view, stands, before, turn) {
+        turns.offer(usize::from(turn.0), offer);
     }
 }
 
@@ -45,6 +63,7 @@ pub fn spread(view: Viewed<'_>, before: TurnNumber, label: Label, turns: &mut La
     let link = view.turn_second(before);
     let run = followers(view.book, link);
     let pairs = pairs_of(view.book, before);
+    // The ends by name, since the loop's invariant speaks of them and a range changes as it is walked.
     let start = run.start;
     let end = run.end;
     let to = pairs.end;

@@ -19,15 +19,14 @@ impl Labels<'_> {
         !settled[at] & (self.cost[at] != UNREACHED)
     }
 
-    // By cost, then links.
+    // By cost, then links, as the definition has it; labels with their own numbers would compare the numbers too, which is the same only where `other` is the earlier.
     fn is_less(self, one: TurnNumber, other: TurnNumber) -> bool
         requires { (length self.links.now ≡ length self.cost.now) × (one.0 < length self.cost.now) × (other.0 < length self.cost.now) }
         ensures { result ≡ key_less (key_at self.entry.cost.now self.entry.links.now one.0) (key_at self.entry.cost.now self.entry.links.now other.0) }
     {
         let here = usize::from(one.0);
         let there = usize::from(other.0);
-        (self.cost[here] < self.cost[there])
-            | ((self.cost[here] == self.cost[there]) & (self.links[here] < self.links[there]))
+        (self.cost[here], self.links[here]) < (self.cost[there], self.links[there])
     }
 
     // The first of two turns where it is less, else the other.
@@ -67,6 +66,7 @@ impl Labels<'_> {
         ensures { Picks self.entry.cost.now self.entry.links.now settled.now result }
     {
         let mut least = None;
+        // At most 4,096, as required: as `u16` the length stays the same.
         for turn in 0..self.cost.len() as u16 {
             least = self.least_with(settled, TurnNumber(turn), least);
         }

@@ -1,5 +1,5 @@
 -- Buffers that stay the lender's own through two steps stay so through both.
-use Rattle.std.proofs.Common.{◌≡◌, refl, ◌∙◌}
+use Rattle.std.proofs.Common.{refl, ◌∙◌}
 use Rattle.search.specs.declared.LabelsMut.{LabelsMut}
 use Rattle.search.specs.Lent.{SameBuffers}
 

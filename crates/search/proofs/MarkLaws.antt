@@ -6,10 +6,8 @@ use mathlib.Core.List.{List, [], ◌∷◌, ◌++◌}
 use mathlib.Core.Bool.{Bool, true, false, not}
 use native.Mathlib.Omega.{arith}
 use native.Mathlib.Decide.{ℕ_discrete}
-use lib.Dec.{eqb}
 use lib.ListN.{length, get_or, set, replicate, take, drop, length-set}
 use lib.Seq.{get_or-set_same, get_or-set_other, length-take-le, take_at}
-use borrow.Author.Tests.{eq-eqb}
 use Rattle.walk.specs.Counting.{one_unless}
 use Rattle.search.specs.steps.Picking.{is_settled}
 use Rattle.search.specs.steps.Marks.{settled_count}

@@ -8,7 +8,7 @@ use mathlib.Core.Option.{some}
 use native.Mathlib.Omega.{arith}
 use lib.Dec.{T, ltb, eqb}
 use lib.ListN.{length, get_or, set, replicate, length-set, length-replicate}
-use borrow.Author.Tests.{lt-ltb, ltb-true, ne_eqb, eqb-true, eqb-false, not-true}
+use borrow.Author.Tests.{lt-ltb, ltb-true, ne_eqb, eqb-false, not-true}
 use Rattle.book.proofs.Limits.{both}
 use Rattle.walk.specs.View.{View}
 use Rattle.walk.specs.Walks.{between, allowed, seconds}

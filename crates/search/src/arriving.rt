@@ -37,12 +37,14 @@ fn better_of(
 }
 
 // The best label of the links that enter a destination, whose back is the link's own number; or no walk.
+// Labels are folded, and made an `Option` at the end alone, since the clause folds entries from the one that has no walk.
 #[tactic(auto, unfolding(crate::specs::steps::Arriving::best_into))]
 fn best_label(book: CheckedBook<'_>, destination: NodeNumber, links: Labels<'_>) -> Label
     requires { (length links.cost.now ≡ book.counts.links) × (length links.links.now ≡ book.counts.links) }
     ensures { as_entry result ≡ best_into (link_to (link_table book.entry.bytes.now book.entry.counts)) links.entry.cost.now links.entry.links.now destination.0 book.entry.counts.links }
 {
     let mut best = NO_WALK;
+    // A checked book has at most 2,048 links: as `u16` their count stays the same.
     for link in 0..book.counts.links as u16 {
         best = better_of(book, destination, links, LinkNumber(link), best);
     }

@@ -24,7 +24,7 @@ impl Label {
         }
     }
 
-    // By cost, then links, then back.
+    // By cost, then links, then back. Named, as the next two are: their clauses speak of the definitions' entries, an operator's of the fields.
     pub fn goes_ahead(self, other: Label) -> bool
         ensures { result ≡ goes_ahead (as_entry self) (as_entry other) }
     {
@@ -101,7 +101,7 @@ impl LabelsMut<'_> {
         self.back[entry] = label.back;
     }
 
-    // So many entries, each with the label that is made of its number.
+    // So many entries, each with the label that is made of its number; as required there are few enough that `u16` holds their count.
     pub fn fill<F: Fn(u16) -> Label>(&mut self, count: usize, label_of: F)
         requires sized { Sized count (table_in self.old) }
         requires few { count < 65536 }

@@ -43,6 +43,7 @@ pub fn labels_true<'l>(
     ensures { Tells result (TrueLabels (view_of book.entry.bytes.now book.entry.counts) origin.0 (labels_in turns.entry) (labels_in links.entry)) }
 {
     let count = book.counts.turns;
+    // Room for the most turns, of which the book's own are used: there is no heap.
     let mut walks = [0u16; MOST_TURNS];
     read_walks(book, &mut walks[..count]);
     let view = Viewed {

@@ -37,7 +37,7 @@ pub struct Label {
     pub back: u16,
 }
 
-// A table's three buffers, lent for reading: one number of each an entry.
+// A table's three buffers, lent for reading: one number of each an entry. They are three, since document 01 lends and measures each apart.
 #[derive(Clone, Copy)]
 pub struct Labels<'a> {
     pub cost: &'a [u32],
@@ -45,7 +45,7 @@ pub struct Labels<'a> {
     pub back: &'a [u16],
 }
 
-// A table's three buffers, lent to be written.
+// A table's three buffers, lent to be written. A reference in it could be exchanged for another, so each function that takes one says that it keeps those that were lent (`SameBuffers`).
 #[derive(Drop)]
 pub struct LabelsMut<'a> {
     pub cost: &'a mut [u32],

@@ -62,6 +62,7 @@ fn route_judged<'l>(
     ensures { Routing book.entry.bytes.now origin.0 destination.0 (labels_in turns.entry) (labels_in links.entry) route.old result route.new }
 {
     let count = book.counts.turns;
+    // Room for the most turns, of which the book's own are used: there is no heap.
     let mut walks = [0u16; MOST_TURNS];
     read_walks(book, &mut walks[..count]);
     let view = Viewed {
@@ -103,7 +104,7 @@ pub fn route<'l>(
     )
 }
 
-// Number, place, cost and number of links of an answer.
+// Number, place, cost and number of links of an answer; `walk`'s has the first two alone, and the promise names `route_given_back`.
 pub fn route_given_back(answer: Result<Routed, Refusal>) -> RouteFigures
     ensures { result ≡ route_given_back answer }
 {

@@ -27,6 +27,7 @@ fn label_all(
     ensures same { SameBuffers turns.old turns.new × SameBuffers links.old links.new }
 {
     let count = book.counts.turns;
+    // Room for the most turns, of which the book's own are used: there is no heap.
     let mut walks = [0u16; MOST_TURNS];
     read_walks(book, &mut walks[..count]);
     let view = Viewed {
@@ -54,7 +55,7 @@ pub fn search(
     Ok(())
 }
 
-// Number and place of an answer, 0 and 0 where it is done.
+// Number and place of an answer, 0 and 0 where it is done: `walk`'s, under the definition that Search's promise names, `search_given_back`.
 pub fn given_back(answer: Result<(), Refusal>) -> GivenBack
     ensures { result ≡ search_given_back answer }
 {

@@ -34,6 +34,7 @@ fn settle_all(view: Viewed<'_>, turns: &mut LabelsMut<'_>)
     ensures same { SameBuffers turns.old turns.new }
 {
     let count = view.book.counts.turns;
+    // Room for the most turns, of which the book's own are used: there is no heap.
     let mut settled = [false; MOST_TURNS];
     'settling: while let Some(turn) = turns.lent().pick(&settled[..count]) {
         settle(view, turn, &mut settled[..count], turns);

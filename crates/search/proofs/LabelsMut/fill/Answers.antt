@@ -14,8 +14,7 @@ place-requires g c = holds_in c.loop-entry.invariant.0 _ (omega (arith, c.from.e
 pub loop-entry-preserved : goal.loop-entry-preserved
 loop-entry-preserved g c =
     let stored = rw c.from.ensures at c.place.ensures.placed in
-    let told-label = c.label_of-label.ensures in
-    (
+    let told-label = c.label_of-label.ensures in (
       rw stored (placed_sized c.loop-entry.invariant.0 _ _),
       (λ entry told. one_placed _ _ _ _ _ _ c.loop-entry-test.true (told _ _ c.loop-entry-test.true told-label) stored (c.loop-entry.invariant.1 entry told)),
       same_on c.loop-entry.invariant.2 c.place.ensures.same,

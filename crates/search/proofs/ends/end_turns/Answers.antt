@@ -1,5 +1,4 @@
 -- The turns passed have offered their figures.
-use Rattle.std.proofs.Common.{rules, arith}
 use Rattle.search.proofs.Buffers.{same_self, same_on}
 use Rattle.search.proofs.EndedTurns.{none_ended, one_ended, all_ended}
 use Rattle.search.proofs.ends.end_turns.Goals as goal

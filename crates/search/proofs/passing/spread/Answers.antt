@@ -1,5 +1,5 @@
 -- The followers before the one in hand have been passed the label, and the pairs before the one in hand are theirs.
-use Rattle.std.proofs.Common.{rules, arith}
+use Rattle.std.proofs.Common.{arith}
 use Rattle.search.proofs.Buffers.{same_self, same_on}
 use Rattle.search.proofs.Spreading.{set_out, goes_on, arrived}
 use Rattle.search.proofs.BothRuns.{followers_listed, pairs_listed}

@@ -1,5 +1,5 @@
 -- Each end of the code is one case of the route by its walks.
-use Rattle.std.proofs.Common.{length, sym, ap, ◌∙◌}
+use Rattle.std.proofs.Common.{sym, ◌∙◌}
 use borrow.Author.Tests.{eqb-true, eqb-false}
 use Rattle.search.proofs.RouteLaws.{stays_here, none_leads, too_long, trace_asked, traced_route}
 use Rattle.search.proofs.routing.route_onward.Goals as goal

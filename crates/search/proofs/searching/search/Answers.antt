@@ -1,5 +1,5 @@
 -- What the tests refuse is one case of the contract, and true labels are the other.
-use Rattle.std.proofs.Common.{Ok, refl, sym, ap₂, ◌∙◌}
+use Rattle.std.proofs.Common.{refl, sym, ap₂, ◌∙◌}
 use Rattle.std.proofs.lemmas.Result.{err_from_is_err_and}
 use Rattle.search.specs.Search.{refused, done}
 use Rattle.search.specs.Tests.{length_test}

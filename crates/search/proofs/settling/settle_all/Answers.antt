@@ -1,5 +1,5 @@
 -- Each pick settles one turn more, so the turns run out, and then every entry is true.
-use Rattle.std.proofs.Common.{rules, arith, ◌≡◌, ◌≤◌, ℕ, List, Bool, Option, Some, None, length, take, sym, ap, ◌∙◌, subst}
+use Rattle.std.proofs.Common.{arith, ◌≡◌, ◌≤◌, ℕ, List, Bool, Option, length, take, subst}
 use lib.ListN.{length-take}
 use Rattle.book.specs.declared.TurnNumber.{TurnNumber}
 use Rattle.walk.specs.Labels.{Table}

@@ -1,5 +1,5 @@
 -- The entry follows the two tests.
-use Rattle.std.proofs.Common.{rules, arith, sym, ◌∙◌}
+use Rattle.std.proofs.Common.{sym, ◌∙◌}
 use Rattle.std.proofs.lemmas.Bool.{not-true, not-false}
 use borrow.Author.Tests.{eq-eqb, ne_eqb}
 use Rattle.search.specs.steps.Starts.{start_entry}

@@ -44,7 +44,7 @@ fn best_label(book: CheckedBook<'_>, destination: NodeNumber, links: Labels<'_>)
     ensures { as_entry result ≡ best_into (link_to (link_table book.entry.bytes.now book.entry.counts)) links.entry.cost.now links.entry.links.now destination.0 book.entry.counts.links }
 {
     let mut best = NO_WALK;
-    // A checked book has at most 2,048 links: as `u16` their count stays the same.
+    // A checked book has at most 2,048 links: as a `u16` their count stays the same.
     for link in 0..book.counts.links as u16 {
         best = better_of(book, destination, links, LinkNumber(link), best);
     }

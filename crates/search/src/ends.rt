@@ -31,7 +31,7 @@ pub fn end_turns(view: Viewed<'_>, turns: Labels<'_>, links: &mut LabelsMut<'_>)
     ensures ended { table_in links.new ≡ ended_by (view_in view.entry).second turns.entry.cost.now turns.entry.links.now view.entry.book.counts.turns (table_in links.old) }
     ensures same { SameBuffers links.old links.new }
 {
-    // A checked book has at most 4,096 turns: as `u16` their count stays the same.
+    // A checked book has at most 4,096 turns: as a `u16` their count stays the same.
     for turn in 0..view.book.counts.turns as u16 {
         end_turn(view, turns, TurnNumber(turn), links);
     }

@@ -16,5 +16,5 @@ pub const MOST_WALK_LINKS: u16 = 4097;
 // The most seconds of a chosen walk.
 pub const MOST_WALK_SECONDS: u32 = 191728800;
 
-// A route buffer that serves every route. The cast widens: a constant cannot call `from`.
+// A route buffer that serves every route. The cast widens: a constant's value can call no function, so not `from`.
 pub const ROUTE_ROOM: usize = MOST_WALK_LINKS as usize;

@@ -49,7 +49,7 @@ impl Judge<'_, '_> {
     pub fn links_stand(self) -> bool
         ensures { result ≡ every_below (link_stands (view_in self.entry.view) self.entry.origin.0 self.entry.turns.cost.now self.entry.turns.links.now (labels_in self.entry.links)) self.entry.view.book.counts.links }
     {
-        // A checked book has at most 2,048 links: as `u16` their count stays the same.
+        // A checked book has at most 2,048 links: as a `u16` their count stays the same.
         for link in 0..self.view.book.counts.links as u16 {
             if !self.link_stands(LinkNumber(link)) {
                 return false;

@@ -131,7 +131,7 @@ impl Judge<'_, '_> {
     pub fn turns_stand(self) -> bool
         ensures { result ≡ every_below (turn_stands (view_in self.entry.view) self.entry.origin.0 (labels_in self.entry.turns) (labels_in self.entry.links)) self.entry.view.book.counts.turns }
     {
-        // A checked book has at most 4,096 turns: as `u16` their count stays the same.
+        // A checked book has at most 4,096 turns: as a `u16` their count stays the same.
         for turn in 0..self.view.book.counts.turns as u16 {
             if !self.turn_stands(TurnNumber(turn)) {
                 return false;

@@ -45,7 +45,7 @@ pub struct Labels<'a> {
     pub back: &'a [u16],
 }
 
-// A table's three buffers, lent to be written. A reference in it could be exchanged for another, so each function that takes one says that it keeps those that were lent (`SameBuffers`).
+// A table's three buffers, lent to be written. A reference in it could be exchanged for another, so each function that may write one says that it keeps those that were lent (`SameBuffers`).
 #[derive(Drop)]
 pub struct LabelsMut<'a> {
     pub cost: &'a mut [u32],

@@ -66,7 +66,7 @@ impl Labels<'_> {
         ensures { Picks self.entry.cost.now self.entry.links.now settled.now result }
     {
         let mut least = None;
-        // At most 4,096, as required: as `u16` the length stays the same.
+        // At most 4,096, as required: as a `u16` the length stays the same.
         for turn in 0..self.cost.len() as u16 {
             least = self.least_with(settled, TurnNumber(turn), least);
         }

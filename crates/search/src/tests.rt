@@ -1,4 +1,4 @@
-// Tests 10 and 12. Each takes the answer so far and hands a refusal on, as the definitions do, so that the order of the tests is part of its clause and nothing needs to hold before.
+// Tests 10 and 12. Each takes the answer so far and hands a refusal on, as the definitions do (`unless`), so that the order of the tests is part of its clause and nothing needs to hold before.
 ghost use Rattle.std.specs.Prelude.{◌≡◌};
 ghost use Rattle.search.specs.Lent.{labels_in};
 ghost use Rattle.search.specs.Tests.{fits, node_test, length_test};

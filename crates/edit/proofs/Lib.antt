@@ -1,4 +1,5 @@
 pub mod KeptSoFar
+pub mod OneNumber
 pub mod Counted
 pub mod Tested
 pub mod NewLabels

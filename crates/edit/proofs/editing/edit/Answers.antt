@@ -1,5 +1,5 @@
 -- Where a test refuses nothing is written, and otherwise the counts are the checked book's.
-use Rattle.std.proofs.Common.{Ok, refl, sym, ap₂, ◌∙◌}
+use Rattle.std.proofs.Common.{refl, sym, ap₂, ◌∙◌}
 use Rattle.std.proofs.lemmas.Result.{err_from_is_err_and}
 use Rattle.search.specs.Tests.{length_test}
 use Rattle.edit.specs.Edit.{refused}

@@ -45,6 +45,7 @@ module _ (book : List ℕ) (r s : ℕ) (after : List ℕ) (cost count : ℕ) (le
   led_to_fare =
       let few = (room_serves book r s counts checked links route).0 in
       record {
+        checked = checked;
         given = record { few = omega arith; exist = links_exist (view_of book counts) r s links route.walk };
         few = few;
         fits = longest_plan book r s _ (led_planned led);

@@ -36,9 +36,9 @@ fare_line book counts table terms links checked good exist few =
     let most = fare_most counts.links (fares_of (view_of book counts) table terms) (limited_fares book counts table terms checked good) links exist in
     omega (arith, length_one (fare_of (fares_of (view_of book counts) table terms) links).0, length_below 13 (fare_of (fares_of (view_of book counts) table terms) links).0 (omega arith))
 
-pub fare_fits : {book : List ℕ} {counts : Counts} {r cost : ℕ} {links bytes : List ℕ} {terms : Terms} {table after : List ℕ} {answer : Bool} → check_of book ≡ Ok counts → RouteToFare book counts r cost links → length table ≡ counts.links + counts.lines → FaresRead counts bytes terms table answer after → answer ≡ true
+pub fare_fits : {book : List ℕ} {counts : Counts} {r cost : ℕ} {links bytes : List ℕ} {terms : Terms} {table after : List ℕ} {answer : Bool} → RouteToFare book counts r cost links → length table ≡ counts.links + counts.lines → FaresRead counts bytes terms table answer after → answer ≡ true
     → (fare : Won) → fare ≡ fare_of (fares_of (view_of book counts) after terms) links → length (line (fare.0 ∷ [])) ≤ 15
-fare_fits {book} {counts} {r} {cost} {links} {bytes} {terms} {table} {after} checked route sized read good fare e = rw e (fare_line book counts after terms links checked (read_good sized read good) route.given.exist route.few)
+fare_fits {book} {counts} {r} {cost} {links} {bytes} {terms} {table} {after} route sized read good fare e = rw e (fare_line book counts after terms links route.checked (read_good sized read good) route.given.exist route.few)
 
 one_line : (lines : List (List ℕ)) (fields : List ℕ) → lines ≡ fields ∷ [] → length (text_of lines) ≡ length (line fields)
 one_line lines fields e = rw (e, text_one fields)

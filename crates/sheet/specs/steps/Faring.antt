@@ -1,6 +1,7 @@
 -- What stands between the route that was found, its fares, and the lines that are put.
-use Rattle.std.specs.Prelude.{ℕ, ◌+◌, ◌*◌, ◌≤◌, ◌≡◌, ◌⊎◌, List, [], ◌∷◌, Bool, true, false, cond, eqb, length}
+use Rattle.std.specs.Prelude.{ℕ, ◌+◌, ◌*◌, ◌≤◌, ◌≡◌, ◌⊎◌, List, [], ◌∷◌, Bool, true, false, cond, eqb, length, Ok}
 use Rattle.book.specs.declared.Counts.{Counts}
+use Rattle.book.specs.Check.{check_of}
 use Rattle.walk.specs.View.{view_of}
 use Rattle.search.specs.steps.Routes.{route_room}
 use Rattle.fare.specs.declared.Terms.{Terms}
@@ -23,8 +24,9 @@ pub record FaresRead (counts : Counts) (bytes : List ℕ) (terms : Terms) (table
   pub tells : answer ≡ bytes_good counts bytes terms
   pub left : after ≡ read_into bytes table
 
--- few enough links of the book, whose line from r is no longer than the longest
+-- few enough links of a good book, whose line from r is no longer than the longest
 pub record RouteToFare (book : List ℕ) (counts : Counts) (r cost : ℕ) (links : List ℕ) : Type 0 where
+  pub checked : check_of book ≡ Ok counts
   pub given : LinksGiven counts links
   pub few : length links ≤ route_room
   pub fits : length (line (asked_fields book r cost links)) ≤ longest_line

@@ -13,7 +13,7 @@ pub fare_of-fare-requires-clause-good : goal.fare_of-fare-requires-clause-good
 fare_of-fare-requires-clause-good c = read_good c.requires.sized c.read_fares.ensures c.if-not-read_fares.false
 
 pub put_number-requires : goal.put_number-requires
-put_number-requires c = omega (arith, fare_fits c.args.book.good c.requires.route c.requires.sized c.read_fares.ensures c.if-not-read_fares.false _ c.fare_of-fare.ensures)
+put_number-requires c = omega (arith, fare_fits c.requires.route c.requires.sized c.read_fares.ensures c.if-not-read_fares.false _ c.fare_of-fare.ensures)
 
 pub returns-clause-lines_put : goal.returns-clause-lines_put
 returns-clause-lines_put c = two_lines_put _ _ (fare_told c.requires.sized c.read_fares.ensures c.if-not-read_fares.false _ c.fare_of-fare.ensures) c.print_route.ensures c.put_number.ensures

@@ -7,7 +7,7 @@ use native.Mathlib.Omega.{arith}
 use lib.Dec.{ltb, leb}
 use lib.ListN.{length, get_or, take, drop, length-drop}
 use lib.Seq.{get_or-take, get_or-drop, length-take-le, take-length}
-use borrow.Author.Tests.{ltb-true, leb-true, eqb-true, ne_eqb}
+use borrow.Author.Tests.{ltb-true, leb-true, eqb-true, eq-eqb, ne_eqb}
 use Rattle.book.specs.declared.Counts.{Counts}
 use Rattle.book.proofs.Limits.{both}
 use Rattle.walk.specs.Walks.{all}
@@ -28,10 +28,14 @@ within_at most numbers h k l = leb-true _ most (each (λ n. leb n most) numbers 
 pub rest_whole : (k : ℕ) (list : List ℕ) → take (length list - k) (drop k list) ≡ drop k list
 rest_whole k list = ap (λ (n : ℕ). take n (drop k list)) (sym (length-drop k list)) ∙ take-length (drop k list)
 
--- a table of another length is not good
+-- a table of another length is not good; of the right length, it is where its two parts are within their limits
 pub other_length : (counts : Counts) (table : List ℕ) → (length table ≡ counts.links + counts.lines → ⊥) → table_good counts table ≡ false
 unfolding table_good
 other_length counts table h = rw (ne_eqb (length table) (counts.links + counts.lines) h)
+
+pub right_length : (counts : Counts) (table : List ℕ) → length table ≡ counts.links + counts.lines → table_good counts table ≡ (all_within most_metres (take counts.links table) && all_within most_won (drop counts.links table))
+unfolding table_good
+right_length counts table h = rw (eq-eqb (length table) (counts.links + counts.lines) h)
 
 pub record GoodTable (counts : Counts) (table : List ℕ) : Type 0 where
   pub size : length table ≡ counts.links + counts.lines

@@ -20,17 +20,20 @@ const NOT_KEPT: Label = Label {
     back: 0,
 };
 
-// Test 11, after what the earlier tests answered.
-#[tactic(auto, unfolding(crate::specs::Edit::turn_test))]
-fn turn_test(
-    answer: Result<Counts, Refusal>,
+// What an edit asks for: a turn and its new walk.
+#[derive(Clone, Copy)]
+struct NewWalk {
     turn: TurnNumber,
     walk: u16,
-) -> Result<Counts, Refusal>
-    ensures { result ≡ turn_test answer turn.0 walk }
+}
+
+// Test 11. The earlier tests' answer comes in and its counts go on, as in the definition, since test 12 takes the answer so far.
+#[tactic(auto, unfolding(crate::specs::Edit::turn_test))]
+fn turn_test(answer: Result<Counts, Refusal>, change: NewWalk) -> Result<Counts, Refusal>
+    ensures { result ≡ turn_test answer change.turn.0 change.walk }
 {
     let counts = answer?;
-    if !(((turn.0 as usize) < counts.turns) & seconds_good(walk)) {
+    if !((usize::from(change.turn.0) < counts.turns) & seconds_good(change.walk)) {
         return Err(Refusal::BadChange);
     }
     Ok(counts)
@@ -38,23 +41,23 @@ fn turn_test(
 
 // The write and the labels of the edited book; what differs from the labels kept from before is counted.
 fn relabel(
+    // beside its counts, here and below: it is written to, so it is no checked book
     book: &mut [u8],
     counts: Counts,
     origin: NodeNumber,
-    turn: TurnNumber,
-    walk: u16,
+    change: NewWalk,
     turns: &mut LabelsMut<'_>,
     links: &mut LabelsMut<'_>,
     turns_kept: &[Label],
     links_kept: &[Label],
 ) -> Edited
-    requires asked { Asked book.old counts origin.0 turn.0 walk (table_in turns.old) (table_in links.old) }
+    requires asked { Asked book.old counts origin.0 change.turn.0 change.walk (table_in turns.old) (table_in links.old) }
     requires turns_kept { KeptWhole counts.turns turns_kept.now (table_in turns.old) }
     requires links_kept { KeptWhole counts.links links_kept.now (table_in links.old) }
-    ensures relabelled { Relabelled book.old counts origin.0 turn.0 walk (table_in turns.old) (table_in links.old) result book.new (table_in turns.new) (table_in links.new) }
+    ensures relabelled { Relabelled book.old counts origin.0 change.turn.0 change.walk (table_in turns.old) (table_in links.old) result book.new (table_in turns.new) (table_in links.new) }
     ensures same { SameBuffers turns.old turns.new × SameBuffers links.old links.new }
 {
-    write_walk(book, counts, turn, walk);
+    write_walk(book, counts, change.turn, change.walk);
     // the edited book passes the same tests, so that its search is done
     let _ = search(book, origin, turns, links);
     Edited {
@@ -68,13 +71,12 @@ fn edit_on(
     book: &mut [u8],
     counts: Counts,
     origin: NodeNumber,
-    turn: TurnNumber,
-    walk: u16,
+    change: NewWalk,
     turns: &mut LabelsMut<'_>,
     links: &mut LabelsMut<'_>,
 ) -> Edited
-    requires { Asked book.old counts origin.0 turn.0 walk (table_in turns.old) (table_in links.old) }
-    ensures relabelled { Relabelled book.old counts origin.0 turn.0 walk (table_in turns.old) (table_in links.old) result book.new (table_in turns.new) (table_in links.new) }
+    requires { Asked book.old counts origin.0 change.turn.0 change.walk (table_in turns.old) (table_in links.old) }
+    ensures relabelled { Relabelled book.old counts origin.0 change.turn.0 change.walk (table_in turns.old) (table_in links.old) result book.new (table_in turns.new) (table_in links.new) }
     ensures same { SameBuffers turns.old turns.new × SameBuffers links.old links.new }
 {
     let turn_count = counts.turns;
@@ -87,8 +89,7 @@ fn edit_on(
         book,
         counts,
         origin,
-        turn,
-        walk,
+        change,
         turns,
         links,
         &turns_kept[..turn_count],
@@ -101,20 +102,19 @@ fn edit_judged(
     book: &mut [u8],
     counts: Counts,
     origin: NodeNumber,
-    turn: TurnNumber,
-    walk: u16,
+    change: NewWalk,
     turns: &mut LabelsMut<'_>,
     links: &mut LabelsMut<'_>,
 ) -> Result<Edited, Refusal>
-    requires { edit_tests book.old origin.0 turn.0 walk (table_in turns.old) (table_in links.old) ≡ Ok counts }
-    ensures edited { Edit book.old origin.0 turn.0 walk (table_in turns.old) (table_in links.old) result book.new (table_in turns.new) (table_in links.new) }
+    requires { edit_tests book.old origin.0 change.turn.0 change.walk (table_in turns.old) (table_in links.old) ≡ Ok counts }
+    ensures edited { Edit book.old origin.0 change.turn.0 change.walk (table_in turns.old) (table_in links.old) result book.new (table_in turns.new) (table_in links.new) }
     ensures same { SameBuffers turns.old turns.new × SameBuffers links.old links.new }
 {
     let checked = CheckedBook::carry(book, counts);
     if !labels_true(checked, origin, turns.lent(), links.lent()) {
         return Err(Refusal::UntrueLabel);
     }
-    Ok(edit_on(book, counts, origin, turn, walk, turns, links))
+    Ok(edit_on(book, counts, origin, change, turns, links))
 }
 
 // Document 01, "What can be asked": the turn's two walk bytes and the labels of the edited book, or nothing lent changes.
@@ -129,9 +129,10 @@ pub fn edit(
     ensures edited { Edit book.old origin.0 turn.0 walk (table_in turns.old) (table_in links.old) result book.new (table_in turns.new) (table_in links.new) }
     ensures same { SameBuffers turns.old turns.new × SameBuffers links.old links.new }
 {
-    let turn_tested = turn_test(node_test(check(book), origin), turn, walk);
+    let change = NewWalk { turn, walk };
+    let turn_tested = turn_test(node_test(check(book), origin), change);
     let counts = length_test(turn_tested, turns.lent(), links.lent())?;
-    edit_judged(book, counts, origin, turn, walk, turns, links)
+    edit_judged(book, counts, origin, change, turns, links)
 }
 
 // Number, place and the two counts of an answer.

@@ -10,7 +10,7 @@ pub fn keep_table(labels: Labels<'_>, kept: &mut [Label])
     requires { Sized (length kept.old) (labels_in labels) }
     ensures { KeptWhole (length kept.old) kept.new (labels_in labels.entry) }
 {
-    for entry in 0..kept.len() {
-        kept[entry] = labels.at(entry);
+    for (entry, slot) in kept.iter_mut().enumerate() {
+        *slot = labels.at(entry);
     }
 }

@@ -1,6 +1,6 @@
 -- What good fares give: the table's length, and each number within its limit.
 use Prim.Native.Nat.{ℕ, zero, suc, ◌+◌, ◌-◌, ◌≤◌, ◌<◌}
-use mathlib.Core.Path.{◌≡◌, sym, ap, ◌∙◌}
+use mathlib.Core.Path.{◌≡◌, refl, sym, ap, ◌∙◌}
 use mathlib.Core.List.{List, [], ◌∷◌, map}
 use mathlib.Core.Bool.{Bool, true, false, ◌&&◌}
 use native.Mathlib.Omega.{arith}
@@ -8,6 +8,7 @@ use lib.Dec.{ltb, leb}
 use lib.ListN.{length, get_or, take, drop, length-drop}
 use lib.Seq.{get_or-take, get_or-drop, length-take-le, take-length}
 use borrow.Author.Tests.{ltb-true, leb-true, eqb-true, eq-eqb, ne_eqb}
+use Rattle.std.specs.List.{list_all}
 use Rattle.book.specs.declared.Counts.{Counts}
 use Rattle.book.proofs.Limits.{both}
 use Rattle.walk.specs.Walks.{all}
@@ -23,6 +24,11 @@ each test (n ∷ rest) h (suc k) l = each test rest (both (test n) (all (map tes
 
 within_at : (most : ℕ) (numbers : List ℕ) → all_within most numbers ≡ true → (k : ℕ) → k < length numbers → get_or numbers k 0 ≤ most
 within_at most numbers h k l = leb-true _ most (each (λ n. leb n most) numbers h k l)
+
+-- a pass over the numbers tells whether all are within their limit
+pub passed_within : (most : ℕ) (numbers : List ℕ) → list_all (λ n. leb n most) numbers ≡ all_within most numbers
+passed_within most [] = refl
+passed_within most (n ∷ rest) = ap (λ (later : Bool). leb n most && later) (passed_within most rest)
 
 -- a part up to the end is all that is left
 pub rest_whole : (k : ℕ) (list : List ℕ) → take (length list - k) (drop k list) ≡ drop k list

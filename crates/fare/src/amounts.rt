@@ -5,6 +5,7 @@ ghost use Rattle.fare.specs.Amounts.{together, dearer, beyond, started_steps, pl
 use super::{Metres, Won};
 
 impl Metres {
+    // not `Add`: what that asks and gives stands in ghost members, not in clauses beside the function
     pub fn together(self, other: Metres) -> Metres
         requires { self.0 + other.0 ≤ largest_held }
         ensures { result ≡ together self other }
@@ -34,6 +35,7 @@ impl Won {
         self.max(other)
     }
 
+    // not `Add`, as for `together`
     pub fn plus(self, other: Won) -> Won
         requires { self.0 + other.0 ≤ largest_held }
         ensures { result ≡ plus self other }

@@ -5,20 +5,16 @@ ghost use Rattle.fare.specs.Fares.{all_within, table_good, terms_good, fares_goo
 use super::{Fares, Terms};
 use book::Counts;
 
-// The most metres of a link, of the basic distance and of a step, and the most won of a basic fare and of a premium.
+// The most metres of a link, of the basic distance and of a step.
 const MOST_METRES: u32 = 200000;
 
+// The most won of a basic fare and of a premium.
 const MOST_WON: u32 = 100000;
 
 fn all_within(numbers: &[u32], most: u32) -> bool
     ensures { result ≡ all_within most numbers.now }
 {
-    for number in numbers {
-        if most < *number {
-            return false;
-        }
-    }
-    true
+    numbers.iter().all(|number| *number <= most)
 }
 
 // The length is tested by a difference, since a sum of any two counts may not be held.
@@ -37,7 +33,7 @@ fn table_good(counts: Counts, table: &[u32]) -> bool
     all_within(&table[..links], MOST_METRES) & all_within(&table[links..], MOST_WON)
 }
 
-// Numbers are compared, not amounts: a limit is one for the table's numbers and for the terms.
+// Numbers are compared, not amounts: a limit is one for the table's numbers, of 32 bits, and for the terms, of 64.
 #[tactic(auto, unfolding(crate::specs::Fares::terms_good))]
 fn terms_good(terms: Terms) -> bool
     ensures { result ≡ terms_good terms }

@@ -49,6 +49,7 @@ pub fn fare<'l>(
     ensures { Faring book.now origin.0 destination.0 (labels_in turns.entry) (labels_in links.entry) buffer.old fares.entry.table.now fares.entry.terms result buffer.new }
 {
     let counts = check(book)?;
+    // cut to the walk's links, since there is no heap
     let mut walk = [0u16; ROUTE_ROOM];
     let found = route(book, origin, destination, turns, links, &mut walk)?;
     fare_found(

@@ -10,7 +10,7 @@ use super::ways::way_of;
 use super::{Page, Way};
 use search::{CheckedBook, ROUTE_ROOM, Refusal, check};
 
-// The plan's line, from the sheet's own route buffer.
+// The plan's line. The links are cut from an array for the longest walk, since there is no heap.
 fn print_plan(book: CheckedBook<'_>, way: Way, page: &mut Page<'_>)
     requires { page.old.at + longest_line ≤ length page.old.text.now }
     ensures { LinePut book.entry.bytes.now way.origin.0 way.destination.0 page.old page.new }

@@ -22,7 +22,7 @@ impl Page<'_> {
         self.at += 1;
     }
 
-    // All digits but the last, then the last.
+    // All digits but the last, then the last: by hand, as in the definition `decimal`, which is among what a reader must believe.
     #[tactic(auto, using(crate::proofs::DigitLaws::length_small, crate::proofs::DigitLaws::length_more, crate::proofs::LineLaws::small_put, crate::proofs::LineLaws::more_put))]
     pub fn put_decimal(&mut self, n: u64)
         requires { Room self.old (decimal n) }

@@ -49,7 +49,7 @@ fn read_table(bytes: &[u8], table: &mut [u32])
     }
 }
 
-// A table of another length is not read.
+// A table of another length is not read. The answer is a `bool` and not the fares, as in the definition `FaresRead`, which the theorem `fare_fits` reads.
 fn read_fares(counts: Counts, given: FareBytes<'_>, table: &mut [u32]) -> bool
     requires { length table.old ≡ counts.links + counts.lines }
     ensures { FaresRead counts given.entry.table.now given.entry.terms table.old result table.new }
@@ -92,7 +92,7 @@ fn put_fares(
     page.put_number(fare.0);
 }
 
-// The fare sheet's own table, of one entry a link and one a line.
+// The table of one entry a link and one a line is cut from an array for the largest book, since there is no heap.
 #[tactic(auto, using(crate::proofs::FareTables::table_room))]
 fn print_fares(
     book: CheckedBook<'_>,
@@ -109,7 +109,7 @@ fn print_fares(
     put_fares(book, route, given, &mut table[..count], page);
 }
 
-// The plan's line and its fare's, from the fare sheet's own route buffer.
+// The plan's line and its fare's. The links are cut from an array for the longest walk, since there is no heap.
 fn print_fare_plan(book: CheckedBook<'_>, way: Way, given: FareBytes<'_>, page: &mut Page<'_>)
     requires { page.old.at + longest_text ≤ length page.old.text.now }
     ensures { LinesPut (FarePlanned book.entry.bytes.now way.origin.0 way.destination.0 given.entry.table.now given.entry.terms) page.old page.new }

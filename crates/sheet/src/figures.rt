@@ -1,4 +1,4 @@
-// The figures of a sheet: how much room its own buffers have.
+// The figures of the sheets: what stands before a book, the most that a line and a text take, and a fare table's entries.
 use book::{MOST_LINES, MOST_LINKS};
 
 // Origin and destination stand before the book, two bytes each.

@@ -15,7 +15,7 @@ mod ways;
 pub use asking::sheet;
 pub use faring::fare_sheet;
 
-// A text that is lent to be printed on, and the place of the next byte.
+// A text that is lent to be printed on, and the place of the next byte: there is no heap for a text that grows.
 #[derive(Drop)]
 struct Page<'a> {
     text: &'a mut [u8],

@@ -10,7 +10,6 @@ use super::Page;
 use search::Refusal;
 use walk::Split;
 
-// What ends every line.
 const NEWLINE: u8 = b'\n';
 
 impl Page<'_> {
@@ -75,7 +74,7 @@ impl Page<'_> {
         self.put_decimal(0);
         self.put_field(u64::from(cost));
         self.put_split(split);
-        // as for a place
+        // a cast, as for a refusal's place
         self.put_field(links.len() as u64);
         self.put_links(links);
         self.put_byte(NEWLINE);

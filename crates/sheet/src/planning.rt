@@ -9,7 +9,7 @@ use super::Way;
 use book::{MOST_LINKS, MOST_TURNS};
 use search::{CheckedBook, LabelsMut, Refusal, Routed, route, search};
 
-// A search, then the route.
+// The route reads the labels that the search leaves, so it finds them true.
 fn plan_search(
     book: CheckedBook<'_>,
     way: Way,
@@ -19,7 +19,7 @@ fn plan_search(
 ) -> Result<Routed, Refusal>
     requires turns_sized { Sized book.counts.turns (table_in turns.old) }
     requires links_sized { Sized book.counts.links (table_in links.old) }
-    requires route_room_in_bounds { route_room ≤ length walk.old }
+    requires room { route_room ≤ length walk.old }
     ensures found { Found book.entry.bytes.now way.origin.0 way.destination.0 walk.old result walk.new }
     ensures labelled { Labelled book.entry.bytes.now way.origin.0 (table_in turns.old) (table_in links.old) (table_in turns.new) (table_in links.new) }
     ensures same { SameBuffers turns.old turns.new × SameBuffers links.old links.new }
@@ -35,7 +35,7 @@ fn plan_search(
     )
 }
 
-// The label buffers are as long as the book's counts.
+// The label buffers are cut to the book's counts from arrays for the largest book, since there is no heap.
 pub fn plan(book: CheckedBook<'_>, way: Way, walk: &mut [u16]) -> Result<Routed, Refusal>
     requires { route_room ≤ length walk.old }
     ensures { Found book.entry.bytes.now way.origin.0 way.destination.0 walk.old result walk.new }

@@ -9,4 +9,4 @@ returns-in_err-search-clause-found c =
     rw (p.1, p.2) (search_found _ _ _ _ _ _ _ _ c.search.ensures.searched _ c.args.book.good c.requires.turns_sized c.requires.links_sized _ c.in_err-search.was _)
 
 pub returns-clause-found : goal.returns-clause-found
-returns-clause-found c = route_found _ _ _ _ _ _ _ _ c.search.ensures.searched c.in_ok-search.was _ _ c.requires.route_room_in_bounds _ (rw (c.lent.ensures, c.lent-2.ensures) at c.route.ensures)
+returns-clause-found c = route_found _ _ _ _ _ _ _ _ c.search.ensures.searched c.in_ok-search.was _ _ c.requires.room _ (rw (c.lent.ensures, c.lent-2.ensures) at c.route.ensures)

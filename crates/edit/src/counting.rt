@@ -12,11 +12,8 @@ pub fn count_differing(kept: &[Label], labels: Labels<'_>) -> usize
     requires { Sized (length kept.now) (labels_in labels) }
     ensures { result ≡ differing (kept_at kept.now) (entry_at (labels_in labels.entry)) (length kept.now) }
 {
-    let mut count = 0;
-    for entry in 0..kept.len() {
-        if !kept[entry].same_as(labels.at(entry)) {
-            count += 1;
-        }
-    }
-    count
+    kept.iter()
+        .enumerate()
+        .filter(|(entry, label)| !label.same_as(labels.at(*entry)))
+        .count()
 }

@@ -29,10 +29,7 @@ use Rattle.sheet.specs.steps.Storing.{Put}
 use Rattle.sheet.proofs.FareText.{one_line_put}
 use Rattle.sheet.proofs.Plans.{refusal_fields, book_refused, Led, led_fields, led_planned}
 
-module _ (book : List ℕ) (r s : ℕ) (after : List ℕ) (cost count : ℕ) (led : Led book r s after cost count) (counts : Counts) (checked : check_of book ≡ Ok counts) where
-  abbrev links : List ℕ
-  links = take count after
-
+module _ (book : List ℕ) (r s : ℕ) (links : List ℕ) (cost : ℕ) (led : Led book r s links cost) (counts : Counts) (checked : check_of book ≡ Ok counts) where
   same : led.counts ≡ counts
   same =
       let passed = tests_passed book r s led.counts led.passed in

@@ -4,28 +4,20 @@ ghost use Rattle.sheet.specs.Sheet.{longest_line, Sheet};
 ghost use Rattle.sheet.specs.steps.Asking.{LinePut};
 
 use super::figures::{BEFORE_BOOK, LONGEST_LINE};
-use super::planning::plan;
-use super::routes::{RouteFound, print_route};
+use super::routes::{print_route, route_planned};
 use super::ways::way_of;
 use super::{Page, Way};
 use search::{CheckedBook, ROUTE_ROOM, Refusal, check};
 
-// The plan's line. The links are cut from an array for the longest walk, since there is no heap.
+// The plan's line. The links lie in an array for the longest walk, since there is no heap.
 fn print_plan(book: CheckedBook<'_>, way: Way, page: &mut Page<'_>)
     requires { page.old.at + longest_line ≤ length page.old.text.now }
     ensures { LinePut book.entry.bytes.now way.origin.0 way.destination.0 page.old page.new }
 {
     let mut links = [0u16; ROUTE_ROOM];
-    match plan(book, way, &mut links) {
+    match route_planned(book, way, &mut links) {
         Err(found) => page.put_refusal(found),
-        Ok(routed) => {
-            let route = RouteFound {
-                origin: way.origin,
-                cost: routed.cost,
-                links: &links[..usize::from(routed.links)],
-            };
-            print_route(book, route, page);
-        }
+        Ok(route) => print_route(book, route, page),
     }
 }
 

@@ -5,8 +5,7 @@ ghost use Rattle.sheet.specs.FareSheet.{long_at, terms_of, entry_bytes, FarePlan
 ghost use Rattle.sheet.specs.steps.Faring.{FaresRead, read_into, RouteToFare, FareTold, LinesPut, BookEnd};
 
 use super::figures::{BEFORE_FARE_BOOK, ENTRY_BYTES, LONGEST_TEXT, MOST_ENTRIES};
-use super::planning::plan;
-use super::routes::{RouteFound, print_route};
+use super::routes::{RouteFound, print_route, route_planned};
 use super::ways::way_of;
 use super::{Page, Way};
 use book::Counts;
@@ -109,22 +108,15 @@ fn print_fares(
     put_fares(book, route, given, &mut table[..count], page);
 }
 
-// The plan's line and its fare's. The links are cut from an array for the longest walk, since there is no heap.
+// The plan's line and its fare's. The links lie in an array for the longest walk, since there is no heap.
 fn print_fare_plan(book: CheckedBook<'_>, way: Way, given: FareBytes<'_>, page: &mut Page<'_>)
     requires { page.old.at + longest_text ≤ length page.old.text.now }
     ensures { LinesPut (FarePlanned book.entry.bytes.now way.origin.0 way.destination.0 given.entry.table.now given.entry.terms) page.old page.new }
 {
     let mut links = [0u16; ROUTE_ROOM];
-    match plan(book, way, &mut links) {
+    match route_planned(book, way, &mut links) {
         Err(found) => page.put_refusal(found),
-        Ok(routed) => {
-            let route = RouteFound {
-                origin: way.origin,
-                cost: routed.cost,
-                links: &links[..usize::from(routed.links)],
-            };
-            print_fares(book, route, given, page);
-        }
+        Ok(route) => print_fares(book, route, given, page),
     }
 }
 

@@ -1,11 +1,14 @@
-// The line of a route just found: where its minutes go is asked of the cost of a given walk (document 02, request 5).
+// A plan's route and the line of it: where its minutes go is asked of the cost of a given walk (document 02, request 5).
+ghost use Rattle.std.specs.Prelude.{◌≤◌, length};
+ghost use Rattle.search.specs.steps.Routes.{route_room};
 ghost use Rattle.sheet.specs.Line.{line};
-ghost use Rattle.sheet.specs.steps.Routes.{asked_fields};
+ghost use Rattle.sheet.specs.steps.Routes.{asked_fields, RoutePlanned};
 ghost use Rattle.sheet.specs.steps.Storing.{Room, Put};
 
-use super::Page;
+use super::planning::plan;
+use super::{Page, Way};
 use book::NodeNumber;
-use search::{CheckedBook, cost_of, split_in};
+use search::{CheckedBook, Refusal, cost_of, split_in};
 
 // A route from its origin: its cost and its links.
 #[derive(Clone, Copy)]
@@ -13,6 +16,23 @@ pub struct RouteFound<'a> {
     pub origin: NodeNumber,
     pub cost: u32,
     pub links: &'a [u16],
+}
+
+// Both sheets take their route from here; its links stay in what was lent for them.
+pub fn route_planned<'a>(
+    book: CheckedBook<'_>,
+    way: Way,
+    links: &'a mut [u16],
+) -> Result<RouteFound<'a>, Refusal>
+    requires { route_room ≤ length links.old }
+    ensures { RoutePlanned book.entry.bytes.now way.origin.0 way.destination.0 result }
+{
+    let routed = plan(book, way, links)?;
+    Ok(RouteFound {
+        origin: way.origin,
+        cost: routed.cost,
+        links: &links[..usize::from(routed.links)],
+    })
 }
 
 pub fn print_route(book: CheckedBook<'_>, route: RouteFound<'_>, page: &mut Page<'_>)

@@ -1,13 +1,13 @@
 // The answer to a line: what only handles the desk is done by `script`, the rest is asked of the layers.
-use super::asking::Asked;
-use super::lending::{ask, terms_now};
-use super::printing::{Printer, print_file};
-use super::saying::{put_checked, put_costed, put_told};
+use super::asking::{say_edit, say_fare, say_route, say_search};
+use super::printing::print_file;
+use super::saying::{put_checked, put_costed};
 use book::{NodeNumber, TurnNumber};
 use script::{
     Answer, Desk, Fault, NUMBERS_ROOM, Question, Text, narrow, open_book, same_book, save_book,
 };
 use search::cost_of;
+use sheet::{fare_sheet, sheet};
 use std::rt::Files;
 
 // Who answers a script's lines: with the numbers of a line, what lies on the desk, and the text of the answer.
@@ -63,13 +63,6 @@ fn say_cost(origin: u16, walk: &[u32], desk: &Desk, text: &mut Text) {
     put_costed(costed, text);
 }
 
-// A question that label buffers are lent to; the links that it wrote follow its figures.
-fn say_asked(asked: Asked, desk: &mut Desk, text: &mut Text) {
-    let told = ask(asked, desk);
-    put_told(told, text);
-    desk.route.put_first(told.links, text);
-}
-
 fn answer_question(
     rt: &impl Files,
     question: Question,
@@ -80,8 +73,14 @@ fn answer_question(
         Question::Open(name) => open_book(rt, name, desk)?,
         Question::Save(name) => save_book(rt, name, desk)?,
         Question::Same(name) => say_same(same_book(rt, name, desk)?, text),
-        Question::Print(name) => print_file(rt, Printer::Route, name, text)?,
-        Question::PrintFare(name) => print_file(rt, Printer::Fare, name, text)?,
+        // in closures: the check takes no function of another crate by its name for `Fn`
+        Question::Print(name) => print_file(rt, |input, lines| sheet(input, lines), name, text)?,
+        Question::PrintFare(name) => print_file(
+            rt,
+            |input, lines| fare_sheet(input, lines),
+            name,
+            text,
+        )?,
         Question::New(length) => desk.begin_book(length),
         Question::Number { at, values } => desk.book.write_numbers(at, values)?,
         Question::Length(length) => desk.book.set_length(length),
@@ -95,15 +94,14 @@ fn answer_question(
         Question::Room => desk.route.put(text),
         Question::Check => put_checked(search::check(desk.book.as_bytes()), text),
         Question::Cost { origin, walk } => say_cost(origin, walk, desk, text),
-        Question::Search(origin) => say_asked(Asked::Search(NodeNumber(origin)), desk, text),
+        Question::Search(origin) => say_search(NodeNumber(origin), desk, text),
         Question::Route {
             origin,
             destination,
             room,
         } => {
             desk.route.set_room(room)?;
-            let asked = Asked::Route(NodeNumber(origin), NodeNumber(destination));
-            say_asked(asked, desk, text);
+            say_route(NodeNumber(origin), NodeNumber(destination), desk, text);
         }
         Question::Fare {
             origin,
@@ -111,13 +109,10 @@ fn answer_question(
             room,
         } => {
             desk.route.set_room(room)?;
-            let terms = terms_now(desk);
-            let asked = Asked::Fare(NodeNumber(origin), NodeNumber(destination), terms);
-            say_asked(asked, desk, text);
+            say_fare(NodeNumber(origin), NodeNumber(destination), desk, text);
         }
         Question::Edit { origin, turn, walk } => {
-            let asked = Asked::Edit(NodeNumber(origin), TurnNumber(turn), walk);
-            say_asked(asked, desk, text);
+            say_edit(NodeNumber(origin), TurnNumber(turn), walk, desk, text);
         }
     }
     Ok(())

@@ -1,10 +1,19 @@
 // The one place where label buffers are lent to a question: those on the desk, as far as each is lent.
-use super::asking::{Asked, Told, put_question};
-use fare::{Metres, Terms, Won};
-use script::{Buffer, Column, Desk, first_mut};
+use fare::{Fares, Metres, Terms, Won};
+use script::{Column, Desk, Table, first_mut};
 use search::LabelsMut;
 
-pub fn terms_now(desk: &Desk) -> Terms {
+// What lies on the desk, lent to a question.
+#[derive(Drop)]
+pub struct Lent<'a> {
+    pub book: &'a mut [u8],
+    pub turns: LabelsMut<'a>,
+    pub links: LabelsMut<'a>,
+    pub buffer: &'a mut [u16],
+    pub fares: Fares<'a>,
+}
+
+fn terms_now(desk: &Desk) -> Terms {
     Terms {
         distance: Metres(u64::from(desk.fares.basic_distance)),
         step: Metres(u64::from(desk.fares.step)),
@@ -12,29 +21,36 @@ pub fn terms_now(desk: &Desk) -> Terms {
     }
 }
 
-pub fn ask(asked: Asked, desk: &mut Desk) -> Told {
-    let turn_costs = desk.lent(Buffer::Turn(Column::Cost));
-    let turn_links = desk.lent(Buffer::Turn(Column::Links));
-    let turn_backs = desk.lent(Buffer::Turn(Column::Back));
-    let link_costs = desk.lent(Buffer::Link(Column::Cost));
-    let link_links = desk.lent(Buffer::Link(Column::Links));
-    let link_backs = desk.lent(Buffer::Link(Column::Back));
-    let mut turns = LabelsMut {
-        cost: first_mut(&mut desk.turns.cost, turn_costs),
-        links: first_mut(&mut desk.turns.links, turn_links),
-        back: first_mut(&mut desk.turns.back, turn_backs),
-    };
-    let mut links = LabelsMut {
-        cost: first_mut(&mut desk.links.cost, link_costs),
-        links: first_mut(&mut desk.links.links, link_links),
-        back: first_mut(&mut desk.links.back, link_backs),
-    };
-    put_question(
-        asked,
-        desk.book.as_bytes_mut(),
-        &mut turns,
-        &mut links,
-        desk.route.lent_mut(),
-        desk.fares.table(),
-    )
+// A table's buffers; `counted` is how many entries the book counts.
+fn lent_of(table: &mut Table, counted: usize) -> LabelsMut<'_> {
+    let cost_count = table.lent(Column::Cost, counted);
+    let links_count = table.lent(Column::Links, counted);
+    let back_count = table.lent(Column::Back, counted);
+    let Table {
+        cost,
+        links,
+        back,
+        ..
+    } = table;
+    LabelsMut {
+        cost: first_mut(cost, cost_count),
+        links: first_mut(links, links_count),
+        back: first_mut(back, back_count),
+    }
+}
+
+pub fn lend_all(desk: &mut Desk) -> Lent<'_> {
+    let turns = desk.book.turns();
+    let links = desk.book.links();
+    let terms = terms_now(desk);
+    Lent {
+        book: desk.book.as_bytes_mut(),
+        turns: lent_of(&mut desk.turns, turns),
+        links: lent_of(&mut desk.links, links),
+        buffer: desk.route.lent_mut(),
+        fares: Fares {
+            table: desk.fares.table(),
+            terms,
+        },
+    }
 }

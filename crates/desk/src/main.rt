@@ -8,7 +8,7 @@ mod printing;
 mod saying;
 mod scripts;
 
-use script::{Tally, open_file};
+use script::{Came, Tally, open_file};
 use scripts::run_script;
 use std::env::{Env, FillError};
 use std::io;
@@ -19,8 +19,9 @@ const NAME_ROOM: usize = 4096;
 fn say_closed(rt: &impl Print, name: &[u8]) -> io::Result<()> {
     rt.write_all(name)?;
     rt.write_all(b": cannot be opened\n")?;
-    let closed = Tally { right: 0, wrong: 1 };
-    closed.print(rt, name)
+    let mut tally = Tally::default();
+    tally.count(Came::NotAsExpected);
+    tally.print(rt, name)
 }
 
 // The script that an argument names; a longer name is no file's.
@@ -34,14 +35,11 @@ fn run_argument(rt: &HostRuntime, which: usize) -> io::Result<()> {
     }
 }
 
-// How many arguments there are: one that is there has no room in no bytes, or is empty.
+// The number of the first argument that is not there; with no bytes to copy it to, one that is there is too long or empty.
 fn count_arguments(rt: &impl Env) -> usize {
-    for which in 0..usize::MAX {
-        if matches!(rt.arg(which, &mut []), Err(FillError::NotPresent)) {
-            return which;
-        }
-    }
-    usize::MAX
+    (0..usize::MAX)
+        .position(|which| matches!(rt.arg(which, &mut []), Err(FillError::NotPresent)))
+        .unwrap_or(usize::MAX)
 }
 
 // The program's own name is its only argument where no script is named: standard input is then the script.

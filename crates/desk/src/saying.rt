@@ -1,58 +1,61 @@
 // What the layers answer, in figures and words.
-use super::asking::Told;
-use book::{Counts, Refusal};
+use book::{Counts, NodeNumber, Refusal};
+use edit::Edited;
+use fare::Fared;
 use script::Text;
-use walk::{Costed, NoCost};
+use search::{Routed, cost_of, split_in};
+use walk::{Costed, NoCost, Split};
 
 // What a refusal's number means: document 01, "Numbers given back", and document 02.
-static MEANINGS: [&str; 18] = [
-    "done",
-    "book under 17 bytes",
-    "mark",
-    "version",
-    "a count or the carry-over above its limit",
-    "length differs from what the counts give",
-    "this line breaks a rule",
-    "this link breaks a rule",
-    "this turn breaks a rule",
-    "this pair breaks a rule",
-    "origin or destination is no node",
-    "edited turn is not in the table, or its new walk is not allowed",
-    "a label buffer has another length",
-    "some label entry is not the true one for this book and origin",
-    "no permitted walk",
-    "route buffer shorter than the route",
-    "",
-    "fare table of another length, or a value outside its limits",
-];
-
-fn put_why(number: u8, text: &mut Text) {
-    text.put(" ");
-    if let Some(meaning) = MEANINGS.get(usize::from(number)) {
-        text.put(meaning);
+fn meaning(found: Refusal) -> &'static str {
+    match found {
+        Refusal::TooShort => "book under 17 bytes",
+        Refusal::Mark => "mark",
+        Refusal::Version => "version",
+        Refusal::Limit => "a count or the carry-over above its limit",
+        Refusal::Length => "length differs from what the counts give",
+        Refusal::Line(_) => "this line breaks a rule",
+        Refusal::Link(_) => "this link breaks a rule",
+        Refusal::Turn(_) => "this turn breaks a rule",
+        Refusal::Pair(_) => "this pair breaks a rule",
+        Refusal::NoNode => "origin or destination is no node",
+        Refusal::BadChange => "edited turn is not in the table, or its new walk is not allowed",
+        Refusal::LabelLength => "a label buffer has another length",
+        Refusal::UntrueLabel => "some label entry is not the true one for this book and origin",
+        Refusal::NoWalk => "no permitted walk",
+        Refusal::NoRoom => "route buffer shorter than the route",
+        Refusal::Fares => "fare table of another length, or a value outside its limits",
     }
+}
+
+// std has no conversion of a usize to a u64 but the cast.
+fn put_count(count: usize, text: &mut Text) {
+    text.put_figure(count as u64);
 }
 
 fn put_refusal(found: Refusal, text: &mut Text) {
     text.put_figure(found.number());
-    text.put_figure(found.place() as u64);
-    put_why(found.number(), text);
+    put_count(found.place(), text);
+    text.put(" ");
+    text.put(meaning(found));
 }
 
-// A refusal's other figures are 0, as those past an answer's own are: one that were not would be said.
-pub fn put_told(told: Told, text: &mut Text) {
-    text.put_figure(told.number);
-    let count = if told.number == 0 { told.count } else { 0 };
-    if told.number != 0 {
-        text.put_figure(told.place as u64);
-    }
-    for (passed, figure) in told.figures.iter().enumerate() {
-        if passed < count || *figure != 0 {
-            text.put_figure(*figure);
-        }
-    }
-    if told.number != 0 {
-        put_why(told.number, text);
+// Where the minutes of a cost go.
+fn put_split(split: Split, text: &mut Text) {
+    text.put_figure(split.ride);
+    text.put_figure(split.wait);
+    text.put_figure(split.walk);
+    text.put_figure(split.extra);
+}
+
+// The route buffer begins with a route's links.
+fn walk_in(buffer: &[u16], links: u16) -> &[u16] {
+    &buffer[..usize::from(links).min(buffer.len())]
+}
+
+fn put_links(links: &[u16], text: &mut Text) {
+    for link in links {
+        text.put_figure(*link);
     }
 }
 
@@ -62,12 +65,12 @@ pub fn put_checked(answer: Result<Counts, Refusal>, text: &mut Text) {
         Err(found) => put_refusal(found, text),
         Ok(counts) => {
             text.put("0");
-            text.put_figure(counts.nodes as u64);
-            text.put_figure(counts.lines as u64);
-            text.put_figure(counts.links as u64);
-            text.put_figure(counts.turns as u64);
-            text.put_figure(counts.pairs as u64);
-            text.put_figure(counts.carry_over as u64);
+            put_count(counts.nodes, text);
+            put_count(counts.lines, text);
+            put_count(counts.links, text);
+            put_count(counts.turns, text);
+            put_count(counts.pairs, text);
+            put_count(counts.carry_over, text);
         }
     }
 }
@@ -80,11 +83,62 @@ pub fn put_costed(answer: Result<Costed, NoCost>, text: &mut Text) {
         Err(NoCost::NotPermitted) => text.put("not permitted"),
         Ok(Costed { cost, split }) => {
             text.put("0");
-            text.put_figure(cost as u64);
-            text.put_figure(split.ride as u64);
-            text.put_figure(split.wait as u64);
-            text.put_figure(split.walk as u64);
-            text.put_figure(split.extra as u64);
+            text.put_figure(cost);
+            put_split(split, text);
+        }
+    }
+}
+
+pub fn put_searched(answer: Result<(), Refusal>, text: &mut Text) {
+    match answer {
+        Err(found) => put_refusal(found, text),
+        Ok(()) => text.put("0"),
+    }
+}
+
+// 0, the cost, where the minutes go, the number of links and the links.
+pub fn put_routed(
+    answer: Result<Routed, Refusal>,
+    book: &[u8],
+    origin: NodeNumber,
+    buffer: &[u16],
+    text: &mut Text,
+) {
+    match answer {
+        Err(found) => put_refusal(found, text),
+        Ok(routed) => {
+            let walk = walk_in(buffer, routed.links);
+            text.put("0");
+            text.put_figure(routed.cost);
+            put_split(split_in(cost_of(book, origin, walk)), text);
+            text.put_figure(routed.links);
+            put_links(walk, text);
+        }
+    }
+}
+
+// 0, the fare, the cost, the number of links and the links.
+pub fn put_fared(answer: Result<Fared, Refusal>, buffer: &[u16], text: &mut Text) {
+    match answer {
+        Err(found) => put_refusal(found, text),
+        Ok(fared) => {
+            text.put("0");
+            text.put_figure(fared.fare.0);
+            text.put_figure(fared.cost);
+            text.put_figure(fared.links);
+            put_links(walk_in(buffer, fared.links), text);
+        }
+    }
+}
+
+// 0 and the two counts.
+pub fn put_edited(answer: Result<Edited, Refusal>, text: &mut Text) {
+    match answer {
+        Err(found) => put_refusal(found, text),
+        Ok(edited) => {
+            text.put("0");
+            put_count(edited.turns, text);
+            put_count(edited.links, text);
         }
     }
 }

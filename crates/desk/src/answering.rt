@@ -4,7 +4,7 @@ use super::printing::print_file;
 use super::saying::{put_checked, put_costed};
 use book::{NodeNumber, TurnNumber};
 use script::{
-    Answer, Desk, Fault, NUMBERS_ROOM, Question, Text, narrow, open_book, same_book, save_book,
+    Answer, Desk, Fault, NUMBERS_ROOM, Question, Text, Way, narrow, open_book, same_book, save_book,
 };
 use search::cost_of;
 use sheet::{fare_sheet, sheet};
@@ -95,19 +95,23 @@ fn answer_question(
         Question::Check => put_checked(search::check(desk.book.as_bytes()), text),
         Question::Cost { origin, walk } => say_cost(origin, walk, desk, text),
         Question::Search(origin) => say_search(NodeNumber(origin), desk, text),
-        Question::Route {
-            origin,
-            destination,
-            room,
-        } => {
+        Question::Route(
+            Way {
+                origin,
+                destination,
+                room,
+            },
+        ) => {
             desk.route.set_room(room)?;
             say_route(NodeNumber(origin), NodeNumber(destination), desk, text);
         }
-        Question::Fare {
-            origin,
-            destination,
-            room,
-        } => {
+        Question::Fare(
+            Way {
+                origin,
+                destination,
+                room,
+            },
+        ) => {
             desk.route.set_room(room)?;
             say_fare(NodeNumber(origin), NodeNumber(destination), desk, text);
         }

@@ -15,7 +15,7 @@ pub fn print_file<F: Fn(&[u8], &mut [u8]) -> Option<usize>>(
     requires { F.IsAlwaysCallable printer }
 {
     let mut room = [0u8; FILE_ROOM];
-    let input = read_file(rt, name, &mut room).map_err(|_| Fault::FileNotOpened)?;
+    let input = read_file(rt, name, &mut room)?;
     let mut lines = [0u8; LINES_ROOM];
     let length = printer(input, &mut lines).ok_or(Fault::NoRoomForTheSheet)?;
     text.put_lines(&lines[..length.min(LINES_ROOM)]);

@@ -61,6 +61,7 @@ impl Block {
     ) -> (Option<&'a [u8]>, Ending)
         ensures { IfSome result.0 (λ taken. length taken.now ≤ length line.old) }
     {
+        // counted past the room too, so that a longer line is seen
         let mut length = 0usize;
         let mut ending = Ending::File;
         // nothing says that a file ends, so that the bytes are counted to a number that no run comes to

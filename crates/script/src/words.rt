@@ -91,6 +91,7 @@ pub fn read_numbers<'a>(line: &[u8], limit: u32, numbers: &'a mut [u32]) -> Resu
     ensures count { IfOk result (λ read. length read.now ≤ length numbers.old) }
     ensures within { IfOk result (λ read. All (λ number. number ≤ limit) read.now) }
 {
+    // counted by hand: words are not zipped with places, since one without a place is a fault
     let mut count = 0;
     for word in line.split(|byte| is_blank(*byte)) {
         if !word.is_empty() {

@@ -8,7 +8,7 @@ use std::fmt::Write;
 // The longest answer is all the turns of a full book.
 pub const TEXT_ROOM: usize = 98304;
 
-// An answer as far as it is written; nothing is written past its room.
+// An answer as far as it is written; nothing is written past its room. Bytes with their length: what the programs share stands on std alone, whose growing texts need a heap.
 #[derive(Drop)]
 pub struct Text {
     bytes: [u8; TEXT_ROOM],
@@ -99,7 +99,7 @@ impl Write for Text {
     }
 }
 
-// What came of a line that could be read and done: it only changed the desk, or something is said.
+// What came of a line that could be read and done: it only changed the desk, or something is said. The text is not in it, since `hold` is given it whichever came.
 #[derive(Clone, Copy, Debug, PartialEq, Eq)]
 pub enum Answer {
     Done,

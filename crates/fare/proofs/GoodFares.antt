@@ -34,14 +34,10 @@ passed_within most (n ∷ rest) = ap (λ (later : Bool). leb n most && later) (p
 pub rest_whole : (k : ℕ) (list : List ℕ) → take (length list - k) (drop k list) ≡ drop k list
 rest_whole k list = ap (λ (n : ℕ). take n (drop k list)) (sym (length-drop k list)) ∙ take-length (drop k list)
 
--- a table of another length is not good; of the right length, it is where its two parts are within their limits
+-- a table of another length is not good
 pub other_length : (counts : Counts) (table : List ℕ) → (length table ≡ counts.links + counts.lines → ⊥) → table_good counts table ≡ false
 unfolding table_good
 other_length counts table h = rw (ne_eqb (length table) (counts.links + counts.lines) h)
-
-pub right_length : (counts : Counts) (table : List ℕ) → length table ≡ counts.links + counts.lines → table_good counts table ≡ (all_within most_metres (take counts.links table) && all_within most_won (drop counts.links table))
-unfolding table_good
-right_length counts table h = rw (eq-eqb (length table) (counts.links + counts.lines) h)
 
 pub record GoodTable (counts : Counts) (table : List ℕ) : Type 0 where
   pub size : length table ≡ counts.links + counts.lines
@@ -108,3 +104,8 @@ fares_tabled counts table terms h = (good_fares counts table terms h).tabled
 
 pub step_long : (counts : Counts) (table : List ℕ) (terms : Terms) → fares_good counts table terms ≡ true → 0 < terms.step.0
 step_long counts table terms h = (good_fares counts table terms h).beside.long
+
+-- a table of the right length is good where its two parts are within their limits
+pub right_length : (counts : Counts) (table : List ℕ) → length table ≡ counts.links + counts.lines → table_good counts table ≡ (all_within most_metres (take counts.links table) && all_within most_won (drop counts.links table))
+unfolding table_good
+right_length counts table h = rw (eq-eqb (length table) (counts.links + counts.lines) h)

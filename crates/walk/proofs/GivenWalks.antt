@@ -16,7 +16,7 @@ use Rattle.book.proofs.Limits.{both}
 use Rattle.walk.specs.declared.Split.{Split}
 use Rattle.walk.specs.declared.NoCost.TheVariants.{NotPermitted}
 use Rattle.walk.specs.declared.Added.{Added}
-use Rattle.walk.specs.Given.{permitted_at}
+use Rattle.walk.specs.Given.{Answer, permitted_at}
 use Rattle.walk.specs.View.{View, view_with, walks_of}
 use Rattle.walk.specs.Walks.{turn_of, permitted, cost_of, split_of, total}
 use Rattle.walk.specs.steps.Splits.{no_split, link_split, together}
@@ -176,3 +176,7 @@ module _ (book : List ℕ) (counts : Counts) (walks : List ℕ) (checked : check
               limit = omega (arith, along.limit, total_together split added.split);
             },
           )
+
+-- what is followed after the first link is all the rest
+pub onward_all : (view : View) (r first : ℕ) {followed rest : List ℕ} {answer : Answer} → answer ≡ walk_answer view r (first ∷ followed) → followed ≡ rest → answer ≡ walk_answer view r (first ∷ rest)
+onward_all view r first told same = rw same at told

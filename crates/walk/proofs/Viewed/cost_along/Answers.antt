@@ -1,7 +1,8 @@
 -- A walk with no links costs nothing; one whose first link does not leave the origin is not permitted.
 use Rattle.std.proofs.Common.{rules, arith, sym, ◌≡◌, ◌∷◌, ◌∙◌}
 use Rattle.walk.proofs.Growth.{same_split}
-use Rattle.walk.proofs.GivenWalks.{no_links, no_start}
+use Rattle.walk.specs.View.{view_in}
+use Rattle.walk.proofs.GivenWalks.{no_links, no_start, onward_all}
 use Rattle.walk.proofs.Viewed.cost_along.Goals as goal
 
 pub returns-in_default : goal.returns-in_default
@@ -23,4 +24,4 @@ pub returns : goal.returns
 returns c =
     let parts : c.args.links.now ≡ c.in-Some.number.now ∷ c.in-Some.rest.now = search rules in
     let met : c.link_from.result.0 ≡ c.args.origin.0 = search (rules, c.if-ne.false) in
-    rw (parts, ← sym c.link_from.ensures ∙ met) c.cost_onward.ensures
+    rw (parts, ← sym c.link_from.ensures ∙ met) (onward_all (view_in c.args.self) _ _ c.cost_onward.ensures (search rules))

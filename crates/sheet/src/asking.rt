@@ -4,6 +4,7 @@ ghost use Rattle.sheet.specs.Sheet.{longest_line, Sheet};
 ghost use Rattle.sheet.specs.steps.Asking.{LinePut};
 
 use super::figures::{BEFORE_BOOK, LONGEST_LINE};
+use super::planning::plan;
 use super::routes::{print_route, route_planned};
 use super::ways::way_of;
 use super::{Page, Way};
@@ -15,7 +16,8 @@ fn print_plan(book: CheckedBook<'_>, way: Way, page: &mut Page<'_>)
     ensures { LinePut book.entry.bytes.now way.origin.0 way.destination.0 page.old page.new }
 {
     let mut links = [0u16; ROUTE_ROOM];
-    match route_planned(book, way, &mut links) {
+    let planned = plan(book, way, &mut links);
+    match route_planned(way, planned, &links) {
         Err(found) => page.put_refusal(found),
         Ok(route) => print_route(book, route, page),
     }

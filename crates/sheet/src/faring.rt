@@ -5,6 +5,7 @@ ghost use Rattle.sheet.specs.FareSheet.{long_at, terms_of, entry_bytes, FarePlan
 ghost use Rattle.sheet.specs.steps.Faring.{FaresRead, read_into, RouteToFare, FareTold, LinesPut, BookEnd};
 
 use super::figures::{BEFORE_FARE_BOOK, ENTRY_BYTES, LONGEST_TEXT, MOST_ENTRIES};
+use super::planning::plan;
 use super::routes::{RouteFound, print_route, route_planned};
 use super::ways::way_of;
 use super::{Page, Way};
@@ -114,7 +115,8 @@ fn print_fare_plan(book: CheckedBook<'_>, way: Way, given: FareBytes<'_>, page: 
     ensures { LinesPut (FarePlanned book.entry.bytes.now way.origin.0 way.destination.0 given.entry.table.now given.entry.terms) page.old page.new }
 {
     let mut links = [0u16; ROUTE_ROOM];
-    match route_planned(book, way, &mut links) {
+    let planned = plan(book, way, &mut links);
+    match route_planned(way, planned, &links) {
         Err(found) => page.put_refusal(found),
         Ok(route) => print_fares(book, route, given, page),
     }

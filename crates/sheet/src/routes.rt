@@ -1,14 +1,13 @@
 // A plan's route and the line of it: where its minutes go is asked of the cost of a given walk (document 02, request 5).
-ghost use Rattle.std.specs.Prelude.{◌≤◌, length};
-ghost use Rattle.search.specs.steps.Routes.{route_room};
+ghost use Rattle.std.specs.Prelude.{◌≤◌, ℕ, List, length, IfOk};
 ghost use Rattle.sheet.specs.Line.{line};
+ghost use Rattle.sheet.specs.steps.Planning.{Found};
 ghost use Rattle.sheet.specs.steps.Routes.{asked_fields, RoutePlanned};
 ghost use Rattle.sheet.specs.steps.Storing.{Room, Put};
 
-use super::planning::plan;
 use super::{Page, Way};
 use book::NodeNumber;
-use search::{CheckedBook, Refusal, cost_of, split_in};
+use search::{CheckedBook, Refusal, Routed, cost_of, split_in};
 
 // A route from its origin: its cost and its links.
 #[derive(Clone, Copy)]
@@ -18,20 +17,20 @@ pub struct RouteFound<'a> {
     pub links: &'a [u16],
 }
 
-// Both sheets take their route from here; its links stay in what was lent for them.
+// Both sheets take a plan's route from here; its links stay where the plan wrote them.
 pub fn route_planned<'a>(
-    book: CheckedBook<'_>,
     way: Way,
-    links: &'a mut [u16],
+    planned: Result<Routed, Refusal>,
+    walk: &'a [u16],
 ) -> Result<RouteFound<'a>, Refusal>
-    requires { route_room ≤ length links.old }
-    ensures { RoutePlanned book.entry.bytes.now way.origin.0 way.destination.0 result }
+    requires { IfOk planned (λ routed. routed.links ≤ length walk.now) }
+    ensures { (book buffer : List ℕ) → Found book way.origin.0 way.destination.0 buffer planned walk.now → RoutePlanned book way.origin.0 way.destination.0 result }
 {
-    let routed = plan(book, way, links)?;
+    let routed = planned?;
     Ok(RouteFound {
         origin: way.origin,
         cost: routed.cost,
-        links: &links[..usize::from(routed.links)],
+        links: &walk[..usize::from(routed.links)],
     })
 }
 

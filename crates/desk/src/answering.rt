@@ -27,6 +27,11 @@ impl Clerk {
         }
     }
 
+    // Numbers and text stay: a line reads only what it wrote of them.
+    pub fn clear_desk(&mut self) {
+        self.desk = Desk::empty();
+    }
+
     // The text of the last answer.
     pub fn said(&self) -> &[u8] {
         self.text.as_bytes()

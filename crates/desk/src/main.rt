@@ -8,8 +8,9 @@ mod printing;
 mod saying;
 mod scripts;
 
-use script::{Came, Tally, open_file};
-use scripts::run_script;
+use answering::Clerk;
+use script::{Block, Came, Tally, open_file};
+use scripts::{LINE_ROOM, run_script};
 use std::env::{Env, FillError};
 use std::io;
 
@@ -25,12 +26,18 @@ fn say_closed(rt: &impl Print, name: &[u8]) -> io::Result<()> {
 }
 
 // The script that an argument names; a longer name is no file's.
-fn run_argument(rt: &HostRuntime, which: usize) -> io::Result<()> {
+fn run_argument(
+    rt: &HostRuntime,
+    which: usize,
+    clerk: &mut Clerk,
+    block: &mut Block,
+    room: &mut [u8],
+) -> io::Result<()> {
     let mut path = [0u8; NAME_ROOM];
     let length = rt.arg(which, &mut path).unwrap_or(0);
     let name = &path[..length.min(NAME_ROOM)];
     match open_file(rt, name) {
-        Ok(mut file) => run_script(rt, &mut file, name),
+        Ok(mut file) => run_script(rt, &mut file, name, clerk, block, room),
         Err(_) => say_closed(rt, name),
     }
 }
@@ -45,11 +52,22 @@ fn count_arguments(rt: &impl Env) -> usize {
 // The program's own name is its only argument where no script is named: standard input is then the script.
 fn main(rt: HostRuntime) -> io::Result<()> {
     let count = count_arguments(&rt);
+    // once for all scripts: to make them anew would cost more than a short script does
+    let mut clerk = Clerk::new();
+    let mut block = Block::new();
+    let mut room = [0u8; LINE_ROOM];
     if count < 2 {
-        return run_script(&rt, &mut rt.stdin(), b"standard input");
+        return run_script(
+            &rt,
+            &mut rt.stdin(),
+            b"standard input",
+            &mut clerk,
+            &mut block,
+            &mut room,
+        );
     }
     for which in 1..count {
-        run_argument(&rt, which)?;
+        run_argument(&rt, which, &mut clerk, &mut block, &mut room)?;
     }
     Ok(())
 }

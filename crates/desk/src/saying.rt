@@ -1,9 +1,9 @@
 // What the layers answer, in figures and words.
-use book::{Counts, NodeNumber, Refusal};
-use edit::Edited;
-use fare::Fared;
+use book::{Counts, GivenBack, NodeNumber, Refusal};
+use edit::{EditFigures, Edited};
+use fare::{FareFigures, Fared, fare_given_back};
 use script::Text;
-use search::{Routed, cost_of, split_in};
+use search::{RouteFigures, Routed, cost_of, route_given_back, split_in};
 use walk::{Costed, NoCost, Split};
 
 // What a refusal's number means: document 01, "Numbers given back", and document 02.
@@ -33,11 +33,15 @@ fn put_count(count: usize, text: &mut Text) {
     text.put_figure(count as u64);
 }
 
-fn put_refusal(found: Refusal, text: &mut Text) {
-    text.put_figure(found.number());
-    put_count(found.place(), text);
+fn put_refused(number: u8, place: usize, found: Refusal, text: &mut Text) {
+    text.put_figure(number);
+    put_count(place, text);
     text.put(" ");
     text.put(meaning(found));
+}
+
+fn put_refusal(found: Refusal, text: &mut Text) {
+    put_refused(found.number(), found.place(), found, text);
 }
 
 // Where the minutes of a cost go.
@@ -90,9 +94,10 @@ pub fn put_costed(answer: Result<Costed, NoCost>, text: &mut Text) {
 }
 
 pub fn put_searched(answer: Result<(), Refusal>, text: &mut Text) {
+    let GivenBack { number, place } = search::given_back(answer);
     match answer {
-        Err(found) => put_refusal(found, text),
-        Ok(()) => text.put("0"),
+        Err(found) => put_refused(number, place, found, text),
+        Ok(()) => text.put_figure(number),
     }
 }
 
@@ -104,14 +109,20 @@ pub fn put_routed(
     buffer: &[u16],
     text: &mut Text,
 ) {
+    let RouteFigures {
+        number,
+        place,
+        cost,
+        links,
+    } = route_given_back(answer);
     match answer {
-        Err(found) => put_refusal(found, text),
-        Ok(routed) => {
-            let walk = walk_in(buffer, routed.links);
-            text.put("0");
-            text.put_figure(routed.cost);
+        Err(found) => put_refused(number, place, found, text),
+        Ok(_) => {
+            let walk = walk_in(buffer, links);
+            text.put_figure(number);
+            text.put_figure(cost);
             put_split(split_in(cost_of(book, origin, walk)), text);
-            text.put_figure(routed.links);
+            text.put_figure(links);
             put_links(walk, text);
         }
     }
@@ -119,26 +130,39 @@ pub fn put_routed(
 
 // 0, the fare, the cost, the number of links and the links.
 pub fn put_fared(answer: Result<Fared, Refusal>, buffer: &[u16], text: &mut Text) {
+    let FareFigures {
+        number,
+        place,
+        cost,
+        links,
+        fare,
+    } = fare_given_back(answer);
     match answer {
-        Err(found) => put_refusal(found, text),
-        Ok(fared) => {
-            text.put("0");
-            text.put_figure(fared.fare.0);
-            text.put_figure(fared.cost);
-            text.put_figure(fared.links);
-            put_links(walk_in(buffer, fared.links), text);
+        Err(found) => put_refused(number, place, found, text),
+        Ok(_) => {
+            text.put_figure(number);
+            text.put_figure(fare.0);
+            text.put_figure(cost);
+            text.put_figure(links);
+            put_links(walk_in(buffer, links), text);
         }
     }
 }
 
 // 0 and the two counts.
 pub fn put_edited(answer: Result<Edited, Refusal>, text: &mut Text) {
+    let EditFigures {
+        number,
+        place,
+        turns,
+        links,
+    } = edit::given_back(answer);
     match answer {
-        Err(found) => put_refusal(found, text),
-        Ok(edited) => {
-            text.put("0");
-            put_count(edited.turns, text);
-            put_count(edited.links, text);
+        Err(found) => put_refused(number, place, found, text),
+        Ok(_) => {
+            text.put_figure(number);
+            put_count(turns, text);
+            put_count(links, text);
         }
     }
 }

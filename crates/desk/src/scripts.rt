@@ -5,7 +5,7 @@ use std::io;
 use std::io::Read;
 use std::rt::Files;
 
-const LINE_ROOM: usize = 262144;
+pub const LINE_ROOM: usize = 262144;
 
 // A line without its remark; one that has no room has no expected answer either.
 fn settle<R: Files + Print>(
@@ -29,11 +29,17 @@ fn settle<R: Files + Print>(
     }
 }
 
-// No script finds what another one left: each has a clerk of its own.
-pub fn run_script<R: Files + Print>(rt: &R, file: &mut impl Read, name: &[u8]) -> io::Result<()> {
-    let mut clerk = Clerk::new();
-    let mut block = Block::new();
-    let mut room = [0u8; LINE_ROOM];
+pub fn run_script<R: Files + Print>(
+    rt: &R,
+    file: &mut impl Read,
+    name: &[u8],
+    clerk: &mut Clerk,
+    block: &mut Block,
+    room: &mut [u8],
+) -> io::Result<()> {
+    // no script finds what another one left
+    clerk.clear_desk();
+    block.clear();
     let mut tally = Tally::default();
     // nothing says that a script ends, so that its lines are counted to a number that no run comes to
     for passed in 0..u64::MAX {
@@ -41,8 +47,8 @@ pub fn run_script<R: Files + Print>(rt: &R, file: &mut impl Read, name: &[u8]) -
             name,
             line: passed + 1,
         };
-        let (line, ending) = block.take_line(file, &mut room);
-        tally.count(settle(rt, place, line, &mut clerk)?);
+        let (line, ending) = block.take_line(file, room);
+        tally.count(settle(rt, place, line, clerk)?);
         match ending {
             Ending::Line => {}
             Ending::File => break,

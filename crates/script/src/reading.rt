@@ -37,11 +37,18 @@ impl Block {
         }
     }
 
+    // Nothing is left to take, as of a file that is not yet read.
+    pub fn clear(&mut self)
+        ensures { bytes_left self.new ≡ [] }
+    {
+        self.at = 0;
+        self.end = 0;
+    }
+
     // The next byte of the file, out of its next block where nothing of this one is left.
     fn next_byte(&mut self, file: &mut impl Read) -> io::Result<Option<u8>> {
         if self.end <= self.at {
-            self.at = 0;
-            self.end = 0;
+            self.clear();
             let end = file.read(&mut self.bytes)?;
             self.end = end;
         }

@@ -1,7 +1,10 @@
 -- A text is cut at its room, so that cutting before more is put and after it leaves the same.
-use Rattle.std.proofs.Common.{Bool, true, false, ◌==◌, codes, drop, drop-cons, add-one, ◌≡◌, ℕ, ◌+◌, ◌<◌, ◌≤◌, List, [], ◌∷◌, ◌++◌, length, take, set, get_or, zero, suc, refl, ap, sym, ◌∙◌, arith, append_assoc, length-append}
+use Rattle.std.proofs.Common.{Bool, true, false, ◌==◌, codes, drop, drop-cons, add-one, ◌≡◌, ℕ, ◌+◌, ◌-◌, ◌<◌, ◌≤◌, min, List, [], ◌∷◌, ◌++◌, length, take, set, get_or, zero, suc, refl, ap, sym, ◌∙◌, arith, append_assoc, length-append}
 use Rattle.script.specs.Texts.{between_lines, byte_of_line, joined_after}
-use Rattle.std.proofs.lemmas.List.{drop_all, append-nil, take_all, take_more, take_more_set, take-append-le, length-take}
+use Rattle.std.proofs.lemmas.List.{drop_all, append-nil, take_all, take_min, take_more_set, take-append-le, length-take, length-take-le}
+use Rattle.std.proofs.lemmas.Slice.{take-put_mid}
+use Rattle.std.proofs.Math.Seq.{take-append-add}
+use borrow.Rule.Slice.PartMut.{put_mid}
 
 pub put_with_room : (room : ℕ) (bytes : List ℕ) (count byte : ℕ) → count < room → count < length bytes
     → take (count + 1) (set bytes count byte) ≡ take room (take count bytes ++ byte ∷ [])
@@ -25,15 +28,18 @@ pub put_none : (room : ℕ) (text : List ℕ) → length text ≤ room → text 
 put_none room text within =
     sym (take_all room (text ++ []) (omega (arith, length-append text [])) ∙ append-nil text)
 
-pub put_more : (room : ℕ) (text words cut : List ℕ) (at : ℕ) → at < length words
-    → cut ≡ take room (text ++ take at words)
-    → take room (cut ++ get_or words at 0 ∷ []) ≡ take room (text ++ take (at + 1) words)
-put_more room text words cut at within before =
-    ap (λ (part : List ℕ). take room (part ++ get_or words at 0 ∷ [])) before
-    ∙ cut_twice room (text ++ take at words) (get_or words at 0 ∷ [])
-    ∙ ap (λ (all : List ℕ). take room all)
-    (append_assoc text (take at words) (get_or words at 0 ∷ [])
-    ∙ ap (λ (rest : List ℕ). text ++ rest) (sym (take_more words at 0 within)))
+-- words put at once, as many of their bytes as there is room for
+pub put_at_once : (room count kept part : ℕ) (bytes words put : List ℕ) → count ≤ room → count ≤ length bytes
+    → kept ≡ min (room - count) (length words) → put ≡ take kept words
+    → take (count + kept) (put_mid count part bytes put) ≡ take room (take count bytes ++ words)
+put_at_once room count kept part bytes words put free within is_kept is_put =
+    let text = take count bytes in
+    let front : length text ≡ count = length-take-le count bytes within in
+    take-put_mid count part bytes put (count + kept) (omega (arith, ap length is_put, length-take kept words)) within
+    ∙ ap (λ (part : List ℕ). text ++ part)
+    (is_put ∙ ap (λ (n : ℕ). take n words) is_kept ∙ take_min (room - count) words)
+    ∙ sym (take-append-add text words (room - count))
+    ∙ ap (λ (n : ℕ). take n (text ++ words)) (omega arith)
 
 -- what is put behind a text that was cut, put behind it uncut
 pub put_behind : (room : ℕ) (text cut part rest : List ℕ) → cut ≡ take room (text ++ part)

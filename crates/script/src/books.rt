@@ -98,14 +98,14 @@ impl DayBook {
     pub fn write_numbers(&mut self, at: usize, values: &[u32]) -> Result<(), Fault>
         ensures fits { IsOk result ↔ ((at ≤ byte_count self.old) × (length values.now ≤ (byte_count self.old - at) / 2)) }
         ensures only { IsOkUnless result Fault.PastTheBook }
+        ensures err { OnErr result (self.new ≡ self.old) }
     {
-        let Some(rest) = self.as_bytes_mut().get_mut(at..) else {
-            return Err(Fault::PastTheBook);
-        };
-        let (pairs, _) = rest.as_chunks_mut::<2>();
-        if pairs.len() < values.len() {
-            return Err(Fault::PastTheBook);
+        // looked at before the bytes are lent to be written, so that a refusal changes nothing
+        match self.as_bytes().get(at..) {
+            Some(rest) if values.len() <= rest.len() / 2 => {}
+            _ => return Err(Fault::PastTheBook),
         }
+        let (pairs, _) = self.as_bytes_mut()[at..].as_chunks_mut::<2>();
         for (pair, value) in pairs.iter_mut().zip(values) {
             *pair = narrow(*value).to_le_bytes();
         }

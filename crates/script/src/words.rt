@@ -93,14 +93,23 @@ pub fn read_numbers<'a>(line: &[u8], limit: u32, numbers: &'a mut [u32]) -> Resu
 {
     // counted by hand: words are not zipped with places, since one without a place is a fault
     let mut count = 0;
-    for word in line.split(|byte| is_blank(*byte)) {
-        if !word.is_empty() {
-            let value = number_up_to(word, limit)?;
+    // walked by hand: std's `split` would yield an empty word for each further blank
+    let mut rest = line;
+    while let [first, behind @ ..] = rest {
+        if is_blank(*first) {
+            rest = behind;
+        } else {
+            let last = behind
+                .iter()
+                .position(|byte| is_blank(*byte))
+                .unwrap_or(behind.len());
+            let value = number_up_to(&rest[..=last], limit)?;
             if numbers.len() <= count {
                 return Err(Fault::TooManyNumbers);
             }
             numbers[count] = value;
             count += 1;
+            rest = &behind[last..];
         }
     }
     Ok(&numbers[..count])

@@ -53,9 +53,12 @@ impl Text {
     pub fn put(&mut self, words: &str)
         ensures { text_in self.new ≡ within_room (text_in self.old ++ words.now) }
     {
-        for byte in words.as_bytes() {
-            self.put_byte(*byte);
-        }
+        // as many bytes as there is room for, copied at once
+        let bytes = words.as_bytes();
+        let kept = (TEXT_ROOM - self.length).min(bytes.len());
+        let end = self.length + kept;
+        self.bytes[self.length..end].copy_from_slice(&bytes[..kept]);
+        self.length = end;
     }
 
     // A figure, after a blank where it is not the first.

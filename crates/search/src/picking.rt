@@ -16,7 +16,8 @@ impl Labels<'_> {
         ensures { result ≡ is_candidate self.entry.cost.now settled.now turn.0 }
     {
         let at = usize::from(turn.0);
-        !settled[at] & (self.cost[at] != UNREACHED)
+        // the mark as a number, which makes one branch of both tests: which turns are settled is in no order that could be foreseen
+        (u8::from(settled[at]) == 0) & (self.cost[at] != UNREACHED)
     }
 
     // By cost, then links, as the definition has it; labels with their own numbers would compare the numbers too, which is the same only where `other` is the earlier.

@@ -1,5 +1,5 @@
 -- A given walk is followed link by link: so far it is permitted, with the four figures so far, and where a step is barred no walk that begins so is permitted.
-use Prim.Native.Nat.{ℕ, ◌+◌, ◌*◌, ◌≤◌, ◌<◌}
+use Prim.Native.Nat.{ℕ, ◌+◌, ◌-◌, ◌*◌, ◌≤◌, ◌<◌}
 use mathlib.Core.Path.{◌≡◌, refl, sym, ap, ◌∙◌, subst}
 use mathlib.Core.List.{List, [], ◌∷◌, ◌++◌, reverse, reverse-append, reverse-reverse}
 use mathlib.Core.Bool.{Bool, true, false}
@@ -180,3 +180,7 @@ module _ (book : List ℕ) (counts : Counts) (walks : List ℕ) (checked : check
 -- what is followed after the first link is all the rest
 pub onward_all : (view : View) (r first : ℕ) {followed rest : List ℕ} {answer : Answer} → answer ≡ walk_answer view r (first ∷ followed) → followed ≡ rest → answer ≡ walk_answer view r (first ∷ rest)
 onward_all view r first told same = rw same at told
+
+-- a part from the first place on is all there is
+pub all_followed : (k : ℕ) (rest : List ℕ) → k ≡ 0 → take (length rest - k) (drop k rest) ≡ rest
+all_followed k rest none = rw none (take_all (length rest - 0) (drop 0 rest) (omega arith))

@@ -2,7 +2,7 @@
 use Rattle.std.proofs.Common.{rules, arith, sym, ◌≡◌, ◌∷◌, ◌∙◌}
 use Rattle.walk.proofs.Growth.{same_split}
 use Rattle.walk.specs.View.{view_in}
-use Rattle.walk.proofs.GivenWalks.{no_links, no_start, onward_all}
+use Rattle.walk.proofs.GivenWalks.{no_links, no_start, onward_all, all_followed}
 use Rattle.walk.proofs.Viewed.cost_along.Goals as goal
 
 pub returns-in_default : goal.returns-in_default
@@ -24,4 +24,4 @@ pub returns : goal.returns
 returns c =
     let parts : c.args.links.now ≡ c.in-Some.number.now ∷ c.in-Some.rest.now = search rules in
     let met : c.link_from.result.0 ≡ c.args.origin.0 = search (rules, c.if-ne.false) in
-    rw (parts, ← sym c.link_from.ensures ∙ met) (onward_all (view_in c.args.self) _ _ c.cost_onward.ensures (search rules))
+    rw (parts, ← sym c.link_from.ensures ∙ met) (onward_all (view_in c.args.self) _ _ c.cost_onward.ensures (search (rules, arith, all_followed)))
